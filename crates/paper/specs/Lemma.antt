@@ -6,7 +6,7 @@ use mathlib.Core.List.{List, [], _∷_, _++_, map}
 use mathlib.Core.Option.{Option, none, some, Option·getD}
 use lib.Dec.{eqb}
 use lib.ListN.{length, getD}
-use Rattle.paper.specs.Lists.{all, any, find, concatMap, sameNumbers}
+use Rattle.paper.specs.Lists.{any, find, listFrom, concatMap, sameNumbers}
 use Rattle.paper.specs.Fields.{array}
 use Rattle.paper.specs.Terms.{Term, given, Assignment}
 use Rattle.paper.specs.Edges.{Source, indexNumber, Guard, Edge, openEdges}
@@ -27,10 +27,7 @@ module _ (cost : Guard → ℕ) where
   abbrev pub pathFrom : (bound : ℕ) → List Edge → List (Option ℕ) → (a : ℕ) → List Edge
   pathFrom zero among table a = []
   pathFrom (suc bound) among table a =
-      elim (find (leadsNearer table a) among) [
-        | none ↦ []
-        | some edge ↦ edge ∷ pathFrom bound among table (Option·getD (across a edge) a)
-      ]
+      listFrom (find (leadsNearer table a) among) (λ edge. edge ∷ pathFrom bound among table (Option·getD (across a edge) a))
 
 -- "equal", "differ", "true", "false" and the conclusion, with their term numbers
 pub data Literal : Type 0 where

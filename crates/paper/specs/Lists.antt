@@ -50,6 +50,10 @@ module _ {A B : Type 0} where
   bindOption none f = none
   bindOption (some x) f = f x
 
+  abbrev pub listFrom : Option A → (A → List B) → List B
+  listFrom none f = []
+  listFrom (some x) f = f x
+
   abbrev pub concatMap : (A → List B) → List A → List B
   concatMap f [] = []
   concatMap f (x ∷ xs) = f x ++ concatMap f xs

@@ -1,0 +1,106 @@
+-- The headline theorems: what the three calls promise, of every string of bytes and every width w. This file only restates and cites.
+-- `check`, `look` and `writeClauses` are the paper's answers (crates/paper/specs/Answers.antt).
+-- Assumes nothing.
+use Prim.Native.Nat.{ℕ, _+_, _*_, _<_, _≤_}
+use mathlib.Core.Path.{_≡_}
+use mathlib.Core.Logic.{_⊎_, _↔_}
+use mathlib.Core.Bool.{Bool, true}
+use mathlib.Core.List.{List, map}
+use mathlib.Core.Option.{some}
+use lib.ListN.{length}
+use Rattle.paper.specs.Lists.{_∈_, count, sum, range}
+use Rattle.paper.specs.Fields.{array}
+use Rattle.paper.specs.Terms.{given, Query}
+use Rattle.paper.specs.Interpretations.{Interpretation, Consistent}
+use Rattle.paper.specs.Load.{Loaded, load, maxBytes}
+use Rattle.paper.specs.Edges.{Source, sources, openEdges}
+use Rattle.paper.specs.Reach.{Reaches, indexValue, stepCost, reaches}
+use Rattle.paper.specs.Conflict.{Pair}
+use Rattle.paper.specs.Lemma.{Literal, path, lemmaBytes}
+use Rattle.paper.specs.Clauses.{clausesOf, freshCount}
+use Rattle.paper.specs.Answers.{Verdict, check, checkRefused, look, lookRefused, writeClauses, writeRefused}
+use Rattle.meaning.proofs.Built.{AreBytes}
+use Rattle.meaning.proofs.Accepted.{accepted}
+use Rattle.meaning.proofs.Refusals as Refusals
+use Rattle.meaning.proofs.Reach as Reach
+use Rattle.meaning.proofs.Given.{open-ranged}
+use Rattle.meaning.proofs.Paths.{Found}
+use Rattle.meaning.proofs.Conflicts.{Taken, step-positive, path-is}
+use Rattle.meaning.proofs.Whole.{guessOf, pairOf, pairsOf}
+use Rattle.meaning.proofs.Verdict.{numbered, pair-taken}
+use Rattle.meaning.proofs.Counts as Counts
+use Rattle.meaning.proofs.Demands as Demands
+use Rattle.meaning.proofs.Demands.{RulesOut, Clausal, Bounded}
+
+-- Demand 1. Every string of bytes has one answer, since the calls are functions of it. What is refused as it is read is refused by a
+-- number of 01's: 1 where it is too long, or else 2 to 9, at a place inside.
+pub refused-by-number : (w : ℕ) (bytes : List ℕ) (refusal at : ℕ) → load w bytes ≡ Loaded.refused refusal at
+    → ((refusal ≡ 1) × (at ≡ 0) × (maxBytes < length bytes)) ⊎ (((2 ≤ refusal) × (refusal ≤ 9)) × (at < length bytes) × (length bytes ≤ maxBytes))
+refused-by-number = Refusals.refusals
+
+-- Then each call answers that number and offset, every other number 0, and writes nothing.
+pub refused-alike : (w : ℕ) (bytes : List ℕ) (refusal at : ℕ) → load w bytes ≡ Loaded.refused refusal at
+    → (room a x : ℕ) → (check w bytes room ≡ checkRefused refusal at) × (look w bytes a x ≡ lookRefused refusal at) × (writeClauses w bytes room ≡ writeRefused refusal at)
+refused-alike = Demands.refused-alike
+
+-- All that follows is of an accepted query.
+module _ (w : ℕ) (bytes : List ℕ) (query : Query) (are-bytes : AreBytes bytes) (loaded : load w bytes ≡ Loaded.accepted query) where
+  -- Demand 2. The verdict is "consistent" exactly if an interpretation exists with all the assigned values and truths.
+  pub consistent-exactly : (room : ℕ) → (check w bytes room .verdict ≡ Verdict.consistent) ↔ Consistent w query
+  consistent-exactly = Demands.consistent-exactly w bytes query are-bytes loaded
+
+  -- The lookup then gives the memories of one.
+  pub lookup-interprets : (room : ℕ) → check w bytes room .verdict ≡ Verdict.consistent
+      → Interpretation w (query .terms) (guessOf query) (λ a x. look w bytes a x .value)
+  lookup-interprets = Demands.lookup-interprets w bytes query are-bytes loaded
+
+  -- In a conflict the bytes written are a lemma that holds in every interpretation of the terms and is false under the guess.
+  pub conflict-rules-out : (room : ℕ) → check w bytes room .verdict ≡ Verdict.inConflict
+      → (literals : List Literal) × (check w bytes room .written ≡ lemmaBytes literals) × RulesOut w query literals
+  conflict-rules-out = Demands.conflict-rules-out w bytes query are-bytes loaded
+
+  -- Demand 3. The numbers written are clauses that say exactly that lemma: at every assignment of bits to the terms, the fresh variables
+  -- can be set so that all clauses hold exactly if the lemma holds.
+  pub clauses-exactly : (room : ℕ) → writeClauses w bytes room .refusal ≡ 0 → Clausal w bytes query room
+  clauses-exactly = Demands.clauses-exactly w bytes query are-bytes loaded
+
+  -- Bounds: 14,496 pairs, 49 literals, 343 bytes, 12,625 numbers.
+  pub bounded : Bounded w query
+  bounded = Demands.bounded w bytes query are-bytes loaded
+
+  -- Reach by computation is reach by walks.
+  pub reach-by-walks : (source : Source) → source ∈ sources (query .terms) → (a : ℕ)
+      → (reaches (query .terms) (guessOf query) source a ≡ true) ↔ Reaches (query .terms) (guessOf query) source a
+  reach-by-walks = Reach.reach-agrees (query .terms) (numbered (accepted w bytes query are-bytes loaded)) (guessOf query)
+
+  -- The pair count is the number of pairs (array term, source) that are reached: that of any test which tells them.
+  pub pairs-reached : (test : Source → ℕ → Bool)
+      → ((source : Source) → source ∈ sources (query .terms) → (a : ℕ) → (test source a ≡ true) ↔ Reaches (query .terms) (guessOf query) source a)
+      → pairsOf query ≡ sum (map (λ source. count (test source) (range 0 (given array (query .terms)))) (sources (query .terms)))
+  pairs-reached = Reach.pairs-agree (query .terms) (numbered (accepted w bytes query are-bytes loaded)) (guessOf query)
+
+  -- The pair taken is the least first source that conflicts with a later one, and with it the least later.
+  pub pair-least : (pair : Pair) → pairOf query ≡ some pair → Taken (query .terms) (guessOf query) (sources (query .terms)) (pair .first) (pair .later)
+  pair-least = pair-taken (accepted w bytes query are-bytes loaded)
+
+  -- Its path is a walk of open edges between the origins, none is shorter, each step is the lowest-numbered open edge that leads one step
+  -- nearer, and it has fewer steps than there are array terms.
+  pub path-shortest : (pair : Pair) (found : pairOf query ≡ some pair)
+      → (d : ℕ)
+      × Found stepCost (openEdges (query .terms) (guessOf query) (indexValue (guessOf query) (pair .first))) (given array (query .terms)) (pair .later .origin)
+      (open-ranged (query .terms) (numbered (accepted w bytes query are-bytes loaded)) (guessOf query) (indexValue (guessOf query) (pair .first)))
+      step-positive
+      (pair .first .origin)
+      d
+      (path (query .terms) (guessOf query) pair)
+      × (length (path (query .terms) (guessOf query) pair) < given array (query .terms))
+  path-shortest pair found =
+      path-is (query .terms) (numbered (accepted w bytes query are-bytes loaded)) (guessOf query) pair (pair-least pair found)
+
+-- With y "equal" and z fresh e's, the clauses are 2w(y+z)+1 and the fresh variables wy+z: 64(y+z)+1 and 32y+z at width 32.
+pub clause-count : (w bases booleans : ℕ) (literals : List Literal)
+    → length (clausesOf w bases booleans literals) ≡ 2 * w * (count Counts.isEqual literals + count Counts.hasE literals) + 1
+clause-count = Counts.clauses-count
+
+pub fresh-count : (w : ℕ) (literals : List Literal) → freshCount w literals ≡ w * count Counts.isEqual literals + count Counts.hasE literals
+fresh-count = Counts.fresh-count

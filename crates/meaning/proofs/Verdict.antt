@@ -1,0 +1,70 @@
+-- Demand 2 of an accepted query: with no conflicting pair the model has its guess; with one, the lemma holds everywhere and fails there.
+-- Assumes nothing.
+use Prim.Native.Nat.{ℕ, _≤_}
+use mathlib.Core.Path.{_≡_, sym, _∙_}
+use mathlib.Core.Bool.{true, false, false≢true}
+use mathlib.Core.List.{List}
+use mathlib.Core.Option.{none, some}
+use lib.ListN.{length}
+use Rattle.paper.specs.Lists.{_∈_}
+use Rattle.paper.specs.Fields.{base, boolean}
+use Rattle.paper.specs.Terms.{Term, given, Query, Assignment}
+use Rattle.paper.specs.Interpretations.{Memories, Interpretation, Consistent}
+use Rattle.paper.specs.Edges.{sources}
+use Rattle.paper.specs.Conflict.{Pair, conflict}
+use Rattle.paper.specs.Lemma.{Literal, lemma, lemmaHolds}
+use Rattle.meaning.proofs.Accepted.{Accepted, below, own-below, witnessed}
+use Rattle.meaning.proofs.Sources.{arrays-bound}
+use Rattle.meaning.proofs.Given.{Numbered, open-is-edge}
+use Rattle.meaning.proofs.Walks.{walk-among}
+use Rattle.meaning.proofs.Soundness.{walk-sound}
+use Rattle.meaning.proofs.Literals.{lemma-same, Within}
+use Rattle.meaning.proofs.Model.{model-interprets}
+use Rattle.meaning.proofs.Whole.{guessOf, pairOf, lemmaOf, modelOf}
+use Rattle.meaning.proofs.Conflicts.{Taken, taken, taken-first, taken-later, path-is, lemma-fails, lemma-within}
+use Rattle.meaning.proofs.Bounds.{literals-bound}
+
+module _ {w : ℕ} {query : Query} (ok : Accepted w query) where
+  pub numbered : Numbered (query .terms)
+  numbered = record { names = λ term here. below ok here; own = λ term here. own-below ok here }
+
+  -- no conflict: the model is an interpretation with the guess
+  pub model-fits : pairOf query ≡ none → Interpretation w (query .terms) (guessOf query) (modelOf query)
+  model-fits quiet = model-interprets (query .terms) numbered (guessOf query) quiet w (ok .small) (λ term here. witnessed ok here)
+
+  module _ (pair : Pair) (found : pairOf query ≡ some pair) where
+    -- the pair is the least, as the paper takes it
+    pub pair-taken : Taken (query .terms) (guessOf query) (sources (query .terms)) (pair .first) (pair .later)
+    unfolding conflict
+    pair-taken = taken (query .terms) (guessOf query) (sources (query .terms)) pair found
+
+    -- the lemma holds in every interpretation of the terms
+    pub lemma-sound : (g : Assignment) (memory : Memories) → Interpretation w (query .terms) g memory → lemmaHolds g (lemmaOf query pair) ≡ true
+    unfolding lemma
+    lemma-sound g memory valid =
+        walk-sound w (query .terms) g memory valid numbered (pair .first) (pair .later)
+        (taken-first (query .terms) (guessOf query) pair-taken)
+        (taken-later (query .terms) (guessOf query) pair-taken)
+        (walk-among (open-is-edge (query .terms) numbered (guessOf query) (guessOf query .value _))
+        (path-is (query .terms) numbered (guessOf query) pair pair-taken .1 .way))
+
+    -- and is false under the guess
+    pub lemma-false : lemmaHolds (guessOf query) (lemmaOf query pair) ≡ false
+    lemma-false = lemma-fails (query .terms) numbered (guessOf query) pair pair-taken
+
+    pub lemma-names : (l : Literal) → l ∈ lemmaOf query pair → Within (given base (query .terms)) (given boolean (query .terms)) l
+    lemma-names = lemma-within (query .terms) numbered (guessOf query) pair pair-taken
+
+    -- so no interpretation has the guess
+    pub conflict-refutes : Consistent w query → ⊥
+    conflict-refutes (g, memory, valid, fits) =
+        false≢true
+        (sym lemma-false
+        ∙ sym (lemma-same (fits .values) (fits .truths) (lemmaOf query pair) lemma-names)
+        ∙ lemma-sound g memory valid)
+
+    pub literals-most : length (lemmaOf query pair) ≤ 49
+    literals-most =
+        literals-bound (query .terms) (guessOf query) pair
+        (path-is (query .terms) numbered (guessOf query) pair pair-taken .2)
+        (arrays-bound ok)
