@@ -127,9 +127,9 @@ module _ (query : Query) (values : length (query .guess .values) ≡ given base 
 
   -- the term of a field whose tests are not met is placed after the terms before it
   pub next-placed : {w : ℕ} (kind : Kind) {numbers : List ℕ} → Shaped w (parts kind) numbers → Faultless query kind numbers → Placed (query .terms) (assigned (extend query kind numbers .guess)) (nextTerm (query .terms) kind numbers)
-  next-placed kind {numbers} shaped faultless = go kind shaped faultless (all-false (eachPart (asUngiven (query .terms)) (parts kind) numbers) (faultless .named))
+  next-placed kind {numbers} shaped faultless = go kind shaped faultless (all-false (eachPart (asUngiven (λ s. given s (query .terms))) (parts kind) numbers) (faultless .named))
     where
-      go : {w : ℕ} (kind : Kind) {numbers : List ℕ} → Shaped w (parts kind) numbers → Faultless query kind numbers → AllFalse (eachPart (asUngiven (query .terms)) (parts kind) numbers)
+      go : {w : ℕ} (kind : Kind) {numbers : List ℕ} → Shaped w (parts kind) numbers → Faultless query kind numbers → AllFalse (eachPart (asUngiven (λ s. given s (query .terms))) (parts kind) numbers)
           → Placed (query .terms) (assigned (extend query kind numbers .guess)) (nextTerm (query .terms) kind numbers)
       go Kind.freeBase (onePart a noPart) faultless named = (tt, refl, tt)
       go Kind.freeBoolean (onePart a noPart) faultless named = (tt, refl, tt)

@@ -50,7 +50,7 @@ unless-refused (suc refusal) refusedFor answer = inr (omega arith, refl)
 -- what the five tests of a field say where none is met
 pub record Faultless (query : Query) (kind : Kind) (numbers : List ℕ) : Type 0 where
   pub room : leb (limit (gives kind)) (given (gives kind) (query .terms)) ≡ false
-  pub named : any (λ ungiven. ungiven) (eachPart (asUngiven (query .terms)) (parts kind) numbers) ≡ false
+  pub named : any (λ ungiven. ungiven) (eachPart (asUngiven (λ s. given s (query .terms))) (parts kind) numbers) ≡ false
   pub bits : any (ltb 1) (eachPart asTruth (parts kind) numbers) ≡ false
   pub witnesses : ofEquality (badWitnesses (query .terms)) (nextTerm (query .terms) kind numbers) ≡ false
   pub differing : (any (eqb 0) (eachPart asTruth (parts kind) numbers) && ofEquality (equalWitnesses (query .guess)) (nextTerm (query .terms) kind numbers)) ≡ false

@@ -35,11 +35,19 @@ asTruth Part.value x = []
 asTruth Part.truth x = x ∷ []
 asTruth (Part.names series) x = []
 
--- is the term that a part names not yet given?
-abbrev pub asUngiven : List Term → Part → ℕ → List Bool
-asUngiven terms Part.value x = []
-asUngiven terms Part.truth x = []
-asUngiven terms (Part.names series) x = leb (given series terms) x ∷ []
+-- is the term that a part names not yet given, where so many of each series are?
+abbrev pub asUngiven : (Series → ℕ) → Part → ℕ → List Bool
+asUngiven counts Part.value x = []
+asUngiven counts Part.truth x = []
+asUngiven counts (Part.names series) x = leb (counts series) x ∷ []
+
+-- 5: "one array, base or Boolean term too many"
+abbrev pub isFull : (Series → ℕ) → Kind → Bool
+isFull counts kind = leb (limit (gives kind)) (counts (gives kind))
+
+-- 6: "a term not yet given is named"
+abbrev pub namesUngiven : (Series → ℕ) → Kind → List ℕ → Bool
+namesUngiven counts kind numbers = any (λ ungiven. ungiven) (eachPart (asUngiven counts) (parts kind) numbers)
 
 -- the index number of the read that gives base term b, if there is one and it reads array a
 abbrev pub readIndex : (b a : ℕ) → Term → Option ℕ
@@ -88,10 +96,11 @@ nextTerm terms kind numbers = termOf kind (given (gives kind) terms) numbers
 unfoldable pub faults : Query → Kind → List ℕ → List Test
 faults query kind numbers =
     let terms = query .terms in
+    let counts : Series → ℕ = λ series. given series terms in
     let term = nextTerm terms kind numbers in
     let truths = eachPart asTruth (parts kind) numbers in
-    (leb (limit (gives kind)) (given (gives kind) terms) refuses 5)
-    ∷ (any (λ ungiven. ungiven) (eachPart (asUngiven terms) (parts kind) numbers) refuses 6)
+    (isFull counts kind refuses 5)
+    ∷ (namesUngiven counts kind numbers refuses 6)
     ∷ (any (ltb 1) truths refuses 7)
     ∷ (ofEquality (badWitnesses terms) term refuses 8)
     ∷ (any (eqb 0) truths && ofEquality (equalWitnesses (query .guess)) term refuses 9)
