@@ -1,0 +1,26 @@
+-- `refusals::load_front` meets its contract: the part that is lent is as long as is asked.
+-- Assumes nothing.
+use lib.ListN.{length-take}
+use native.Mathlib.Omega.{arith}
+use borrow.Author.Needs.{needs}
+use Rattle.refusals.proofs.load_front.Statement.{statement}
+use Rattle.refusals.proofs.load_front.Tie as tie
+
+slice-aggregate-load : tie.Need-slice-aggregate-load
+slice-aggregate-load c = simp length-take (omega arith)
+
+load-requires : tie.Need-load-requires
+load-requires c κs = search needs
+
+say-requires : tie.Need-say-requires
+say-requires c κs = search needs
+
+returns : tie.Need-returns
+returns c = search needs
+
+returns-2 : tie.Need-returns-2
+returns-2 c = search needs
+
+pub load-front-spec : {M : Type 1} → statement M
+load-front-spec =
+    tie.close (tie.spec slice-aggregate-load load-requires say-requires returns returns-2)

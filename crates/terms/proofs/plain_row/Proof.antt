@@ -1,0 +1,20 @@
+-- `terms::plain_row` meets its contract: each part is what its function ensures.
+-- Assumes nothing.
+use borrow.Author.Needs.{needs}
+use Rattle.terms.proofs.plain_row.Statement.{statement}
+use Rattle.terms.proofs.plain_row.Tie as tie
+
+low-requires : tie.Need-low-requires
+low-requires c κs = search needs
+
+low-requires-2 : tie.Need-low-requires-2
+low-requires-2 c κs = search needs
+
+low-requires-3 : tie.Need-low-requires-3
+low-requires-3 c κs = search needs
+
+returns : tie.Need-returns
+returns c = cc
+
+pub plain-row-spec : {M : Type 1} → statement M
+plain-row-spec = tie.close (tie.spec low-requires low-requires-2 low-requires-3 returns)
