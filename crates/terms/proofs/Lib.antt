@@ -6,3 +6,8 @@ pub mod Faults
 pub mod Tables
 pub mod Steps
 pub mod Turn
+pub mod Ranges
+pub mod Prefix
+pub mod Tags
+pub mod SourceTable
+pub mod EdgeTable

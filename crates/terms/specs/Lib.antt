@@ -2,3 +2,4 @@
 pub mod Graph
 pub mod Table
 pub mod Valid
+pub mod Rows

@@ -10,6 +10,9 @@ ghost use Rattle.paper.specs.Load as Load;
 ghost use Rattle.query.specs.Standing.{kindOfField, numbersOf};
 ghost use Rattle.terms.specs.Valid.{Valid};
 ghost use Rattle.terms.specs.Table.{countIn, anyPast, plainRow, baseRow, equalityRow, freeBooleanRow, rowOf, fullIn, witnessFault, faultIn, putIf, noTerms, noGuess, loadedOf};
+
+pub mod graph;
+
 use query::Decoded;
 use query::EqualityParts;
 use query::Field;

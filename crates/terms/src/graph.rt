@@ -1,0 +1,224 @@
+// The tables of the sources and of the edges that loaded terms give, each filled in one pass over the terms. 01, Sources, edges, reach.
+ghost use mathlib.Core.Path.{_≡_};
+ghost use Prim.Native.Nat.{_<_};
+ghost use Rattle.terms.specs.Table.{countOf, termAt};
+ghost use Rattle.terms.specs.Rows.{wantedSource, noSource, sourceRow, wantedEdge, noEdge, writeEdge, branchEdge, equalityEdge, edgeRow, Loadable, SourcesFrom, EdgesFrom};
+use crate::EQUALITY;
+use crate::Edges;
+use crate::Guess;
+use crate::Sources;
+use crate::Terms;
+
+// The tags of the terms that give sources and edges.
+const WRITE: u8 = 4;
+
+const CONDITIONAL: u8 = 5;
+
+const READ: u8 = 6;
+
+// The guards of the edges.
+const DIFFER: u8 = 0;
+
+const IS_TRUE: u8 = 1;
+
+const IS_FALSE: u8 = 2;
+
+// What one term puts into the table of sources, if it gives one.
+pub struct SourceRow {
+    pub wanted: bool,
+    pub origin: u8,
+    pub index: u8,
+    pub value: u8,
+    pub index_value: u64,
+    pub assigned: u64,
+}
+
+// What one term puts into the table of edges, if the guess can open an edge that it gives.
+pub struct EdgeRow {
+    pub wanted: bool,
+    pub left: u8,
+    pub right: u8,
+    pub guard: u8,
+    pub number: u8,
+    pub closed: u64,
+}
+
+fn wanted_source(guess: Guess, origin: u8, index: u8, value: u8) -> SourceRow
+    ensures { λ r. ⌜ r ≡ wantedSource guess origin index value ⌝ }
+{
+    let at = index as usize;
+    let of = value as usize;
+    SourceRow {
+        wanted: true,
+        origin,
+        index,
+        value,
+        index_value: guess.values[at],
+        assigned: guess.values[of],
+    }
+}
+
+fn no_source() -> SourceRow
+    ensures { λ r. ⌜ r ≡ noSource ⌝ }
+{
+    SourceRow {
+        wanted: false,
+        origin: 0,
+        index: 0,
+        value: 0,
+        index_value: 0,
+        assigned: 0,
+    }
+}
+
+// "A read's origin is the array read, its value the read's own base term. A write's origin is the write, with its index and value terms."
+fn source_row(terms: Terms, guess: Guess, k: usize) -> SourceRow
+    requires { ⌜ k < 368 ⌝ }
+    ensures { λ r. ⌜ r ≡ sourceRow guess (termAt terms k) ⌝ }
+{
+    let tag = terms.tag[k];
+    let own = terms.own[k];
+    let index = terms.second[k];
+    if tag == WRITE {
+        return wanted_source(guess, own, index, terms.third[k]);
+    }
+    if tag == READ {
+        return wanted_source(guess, terms.first[k], index, own);
+    }
+    no_source()
+}
+
+// "Fields 04 and 06, in order": each one's source.
+pub fn sources(terms: Terms, guess: Guess) -> Sources
+    requires { ⌜ Loadable terms guess ⌝ }
+    ensures { λ r. ⌜ SourcesFrom terms guess r ⌝ }
+{
+    let mut table = Sources {
+        origin: [0; 304],
+        index: [0; 304],
+        value: [0; 304],
+        index_value: [0; 304],
+        assigned: [0; 304],
+        count: 0,
+    };
+    let end = terms.bases + terms.booleans + terms.arrays;
+    for k in 0..end {
+        let row = source_row(terms, guess, k);
+        if row.wanted {
+            let count = table.count;
+            table.origin[count] = row.origin;
+            table.index[count] = row.index;
+            table.value[count] = row.value;
+            table.index_value[count] = row.index_value;
+            table.assigned[count] = row.assigned;
+            table.count = count + 1;
+        }
+    }
+    table
+}
+
+fn wanted_edge(left: u8, right: u8, guard: u8, number: u8, closed: u64) -> EdgeRow
+    ensures { λ r. ⌜ r ≡ wantedEdge left right guard number closed ⌝ }
+{
+    EdgeRow {
+        wanted: true,
+        left,
+        right,
+        guard,
+        number,
+        closed,
+    }
+}
+
+fn no_edge() -> EdgeRow
+    ensures { λ r. ⌜ r ≡ noEdge ⌝ }
+{
+    EdgeRow {
+        wanted: false,
+        left: 0,
+        right: 0,
+        guard: 0,
+        number: 0,
+        closed: 0,
+    }
+}
+
+// "open to index value v if the write index has another assigned value"
+fn write_edge(guess: Guess, own: u8, beneath: u8, index: u8) -> EdgeRow
+    ensures { λ r. ⌜ r ≡ writeEdge guess own beneath index ⌝ }
+{
+    let at = index as usize;
+    wanted_edge(own, beneath, DIFFER, index, guess.values[at])
+}
+
+// "the branch that the assigned truth chooses"
+fn branch_edge(truth: u8, own: u8, chooser: u8, if_true: u8, if_false: u8) -> EdgeRow
+    ensures { λ r. ⌜ r ≡ branchEdge truth own chooser «if_true» «if_false» ⌝ }
+{
+    if truth == 1 {
+        return wanted_edge(own, if_true, IS_TRUE, chooser, 0);
+    }
+    wanted_edge(own, if_false, IS_FALSE, chooser, 0)
+}
+
+// "open if its truth is 1"
+fn equality_edge(truth: u8, own: u8, left: u8, right: u8) -> EdgeRow
+    ensures { λ r. ⌜ r ≡ equalityEdge truth own left right ⌝ }
+{
+    if truth != 1 {
+        return no_edge();
+    }
+    wanted_edge(left, right, IS_TRUE, own, 0)
+}
+
+// The one edge of a term that the guess can open, if there is one.
+fn edge_row(terms: Terms, guess: Guess, k: usize) -> EdgeRow
+    requires { ⌜ Loadable terms guess × (k < countOf terms) ⌝ }
+    ensures { λ r. ⌜ r ≡ edgeRow guess (termAt terms k) ⌝ }
+{
+    let tag = terms.tag[k];
+    let own = terms.own[k];
+    let first = terms.first[k];
+    let second = terms.second[k];
+    if tag == WRITE {
+        return write_edge(guess, own, first, second);
+    }
+    if tag == CONDITIONAL {
+        let chooser = first as usize;
+        return branch_edge(guess.truths[chooser], own, first, second, terms.third[k]);
+    }
+    if tag == EQUALITY {
+        let at = own as usize;
+        return equality_edge(guess.truths[at], own, first, second);
+    }
+    no_edge()
+}
+
+// "Fields 04, 05 and 07, in order, are the edges": those that the guess can open.
+pub fn edges(terms: Terms, guess: Guess) -> Edges
+    requires { ⌜ Loadable terms guess ⌝ }
+    ensures { λ r. ⌜ EdgesFrom terms guess r ⌝ }
+{
+    let mut table = Edges {
+        left: [0; 112],
+        right: [0; 112],
+        guard: [0; 112],
+        number: [0; 112],
+        closed: [0; 112],
+        count: 0,
+    };
+    let end = terms.bases + terms.booleans + terms.arrays;
+    for k in 0..end {
+        let row = edge_row(terms, guess, k);
+        if row.wanted {
+            let count = table.count;
+            table.left[count] = row.left;
+            table.right[count] = row.right;
+            table.guard[count] = row.guard;
+            table.number[count] = row.number;
+            table.closed[count] = row.closed;
+            table.count = count + 1;
+        }
+    }
+    table
+}
