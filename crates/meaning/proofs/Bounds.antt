@@ -20,7 +20,7 @@ use Rattle.meaning.proofs.Counts.{isEqual}
 use Rattle.meaning.proofs.Accepted.{Accepted}
 use Rattle.meaning.proofs.Sources.{sources-bound, arrays-bound}
 
-count-most : {A : Type 0} (test : A → Bool) (xs : List A) → count test xs ≤ length xs
+pub count-most : {A : Type 0} (test : A → Bool) (xs : List A) → count test xs ≤ length xs
 count-most test [] = omega arith
 count-most test (x ∷ xs) = go (test x) (count-most test xs)
   where

@@ -1,0 +1,80 @@
+-- What is left to search answers for the whole table, by Holding.
+-- Assumes nothing.
+use Rattle.checker.proofs.Holding.{LeftFrom, left-first, left-found, left-next, left-none}
+use mathlib.Core.Path.{_≡_, refl, sym, _∙_}
+use Prim.Native.Nat.{_-_, _≤_}
+use native.Mathlib.Omega.{arith}
+use borrow.Author.Needs.{needs}
+use Rattle.checker.proofs.value_at.Statement.{statement}
+use Rattle.checker.proofs.value_at.Tie as tie
+
+abbrev Inv-loop : tie.InvT-loop
+Inv-loop array index sources rows count k₀ k = (k ≤ count) × (count ≡ sources .count) × (count ≤ 304) × LeftFrom sources rows array index k
+
+abbrev μ-loop : tie.MeasureT-loop
+μ-loop array index sources rows count k₀ k = count - k
+
+loop-holds : tie.Need-loop-holds Inv-loop μ-loop
+loop-holds c = (omega arith, refl, c .before .before .pre .1, left-first (c .before .before .args .judged .sources) (c .before .before .args .judged .rows) (c .before .before .args .array) (c .before .before .args .index))
+
+mul-holds : tie.Need-mul-holds Inv-loop μ-loop
+mul-holds c = omega arith
+
+element-copy-out-holds : tie.Need-element-copy-out-holds Inv-loop μ-loop
+element-copy-out-holds c = omega arith
+
+mul-holds-2 : tie.Need-mul-holds-2 Inv-loop μ-loop
+mul-holds-2 c = omega arith
+
+array-read-holds : tie.Need-array-read-holds Inv-loop μ-loop
+array-read-holds c = omega arith
+
+holds-requires : tie.Need-holds-requires Inv-loop μ-loop
+holds-requires c κs = search needs
+
+mul-result : tie.Need-mul-result Inv-loop μ-loop
+mul-result c = omega arith
+
+element-copy-out-result : tie.Need-element-copy-out-result Inv-loop μ-loop
+element-copy-out-result c = omega arith
+
+returns : tie.Need-returns Inv-loop μ-loop
+returns c =
+    left-found (c .before .before .before .before .before .before .before .before .args .judged .sources) (c .before .before .before .before .before .before .before .before .args .judged .rows) (c .before .before .before .before .before .before .before .before .args .array) (c .before .before .before .before .before .before .before .before .args .index) (c .before .before .before .before .before .loop .k) (c .before .before .before .before .loop-test .taken) (sym (c .before .before .holds .ensures) ∙ c .before .if1 .taken) (c .before .before .before .before .before .loop .inv .3)
+
+add-k : tie.Need-add-k Inv-loop μ-loop
+add-k c = omega arith
+
+loop-less : tie.Need-loop-less Inv-loop μ-loop
+loop-less c = omega arith
+
+loop-again : tie.Need-loop-again Inv-loop μ-loop
+loop-again c = (
+  omega arith,
+  refl,
+  c .before .before .before .before .loop .inv .2,
+  left-next (c .before .before .before .before .before .before .before .args .judged .sources) (c .before .before .before .before .before .before .before .args .judged .rows) (c .before .before .before .before .before .before .before .args .array) (c .before .before .before .before .before .before .before .args .index) (c .before .before .before .before .loop .k) (c .before .before .before .loop-test .taken) (sym (c .before .holds .ensures) ∙ c .if1 .left) (c .before .before .before .before .loop .inv .3),
+)
+
+returns-2 : tie.Need-returns-2 Inv-loop μ-loop
+returns-2 c = left-none (c .before .before .before .before .args .judged .sources) (c .before .before .before .before .args .judged .rows) (c .before .before .before .before .args .array) (c .before .before .before .before .args .index) (c .before .loop .k) (c .loop-test .left) (c .before .loop .inv .3)
+
+pub value-at-spec : {M : Type 1} → statement M
+value-at-spec =
+    tie.close
+    (tie.spec
+    Inv-loop
+    μ-loop
+    loop-holds
+    mul-holds
+    element-copy-out-holds
+    mul-holds-2
+    array-read-holds
+    holds-requires
+    mul-result
+    element-copy-out-result
+    returns
+    add-k
+    loop-less
+    loop-again
+    returns-2)

@@ -1,0 +1,104 @@
+-- The answer of the clause writer, by the three laws of Concluding; its totals fit by Sizes.
+-- Assumes nothing.
+use Rattle.lemma.specs.Pairs.{foundOf}
+use denote.Ref.{now}
+use Rattle.checker.proofs.Concluding.{writes-quiet, writes-short, writes-clauses}
+use Rattle.checker.proofs.Sizes.{fresh-small}
+use mathlib.Core.Path.{sym, ap, _∙_, subst}
+use Prim.Native.Nat.{ℕ, _+_, _*_, _<_, _≤_}
+use native.Mathlib.Omega.{arith}
+use borrow.Author.Needs.{needs}
+use lib.ListN.{length}
+use Rattle.checker.proofs.write.Statement.{statement}
+use Rattle.checker.proofs.write.Tie as tie
+
+enum-told : tie.Need-enum-told
+enum-told c = search needs
+
+enum-known-found : tie.Need-enum-known-found
+enum-known-found c = search needs
+
+literals-between-requires : tie.Need-literals-between-requires
+literals-between-requires c κs = (c .before .before .before .pre, sym (c .before .before .before .pre .judged .found) ∙ ap foundOf (c .before .found .given .1))
+
+counts-requires : tie.Need-counts-requires
+counts-requires c κs = search needs
+
+returns : tie.Need-returns
+returns c =
+    writes-short (c .before .before .before .before .before .before .before .args .judged) (record { first = c .before .before .before .before .before .found .given .0 .0; later = c .before .before .before .before .before .found .given .0 .1 .0 })
+    (ap foundOf (c .before .before .before .before .before .found .given .1))
+    (c .before .before .before .literals-between .result)
+    (c .before .before .before .literals-between .ensures)
+    (now (c .before .before .before .before .before .before .before .args .numbers))
+    (subst (λ (n : ℕ). length (now (c .before .before .before .before .before .before .before .args .numbers)) < n) (c .before .before .counts .ensures .1 .1 (c .before .before .before .before .before .before .before .args .judged .bases) (c .before .before .before .before .before .before .before .args .judged .booleans)) (c .if1 .taken))
+
+put-clauses-requires : tie.Need-put-clauses-requires
+put-clauses-requires c κs =
+    let known = c .before .before .before .before .before .before .before .before .pre in (
+      c .before .before .before .before .literals-between .ensures .made .proper .most,
+      omega (arith, known .judged .bases, known .valid .bases-most),
+      omega (arith, known .judged .booleans, known .valid .booleans-most),
+      omega arith,
+      subst (λ (n : ℕ). n ≤ length (now (c .before .before .before .before .before .before .before .before .args .numbers))) (c .before .before .before .counts .ensures .1 .1 (c .before .before .before .before .before .before .before .before .args .judged .bases) (c .before .before .before .before .before .before .before .before .args .judged .booleans)) (c .before .if1 .left),
+    )
+
+mul-variables : tie.Need-mul-variables
+mul-variables c = search needs
+
+add-variables : tie.Need-add-variables
+add-variables c = search needs
+
+add-variables-2 : tie.Need-add-variables-2
+add-variables-2 c =
+    let known = c .before .before .before .before .before .before .before .before .before .before .before .pre in
+    omega (
+      arith,
+      known .judged .bases,
+      known .judged .booleans,
+      known .valid .bases-most,
+      known .valid .booleans-most,
+      c .before .before .before .before .before .before .counts .ensures .1 .0,
+      fresh-small (c .before .before .before .before .before .before .before .literals-between .result) (c .before .before .before .before .before .before .before .literals-between .ensures .made .proper .most),
+    )
+
+returns-2 : tie.Need-returns-2
+returns-2 c = writes-quiet (c .before .before .args .judged) (ap foundOf (c .enum-told .given .1)) (now (c .before .before .args .numbers))
+
+same-length : tie.Need-same-length
+same-length c = search needs
+
+returns-3 : tie.Need-returns-3
+returns-3 c =
+    let counted = c .before .before .before .before .before .before .counts .ensures in
+    writes-clauses (c .before .before .before .before .before .before .before .before .before .before .before .args .judged) (record { first = c .before .before .before .before .before .before .before .before .before .found .given .0 .0; later = c .before .before .before .before .before .before .before .before .before .found .given .0 .1 .0 })
+    (ap foundOf (c .before .before .before .before .before .before .before .before .before .found .given .1))
+    (c .before .before .before .before .before .before .before .literals-between .result)
+    (c .before .before .before .before .before .before .before .literals-between .ensures)
+    (now (c .before .before .before .before .before .before .before .before .before .before .before .args .numbers))
+    (c .before .before .put-clauses .last .1 .1 .1 .1 .0)
+    (32 * c .before .before .before .before .before .before .before .before .before .before .before .args .judged .bases + c .before .before .before .before .before .before .before .before .before .before .before .args .judged .booleans + c .before .before .before .before .before .before .counts .result .fresh)
+    (c .before .before .before .before .before .before .counts .result .clauses)
+    (c .before .before .put-clauses .result)
+    (subst (λ (n : ℕ). n ≤ length (now (c .before .before .before .before .before .before .before .before .before .before .before .args .numbers))) (counted .1 .1 (c .before .before .before .before .before .before .before .before .before .before .before .args .judged .bases) (c .before .before .before .before .before .before .before .before .before .before .before .args .judged .booleans)) (c .before .before .before .before .if1 .left))
+    (ap (λ (n : ℕ). 32 * c .before .before .before .before .before .before .before .before .before .before .before .args .judged .bases + c .before .before .before .before .before .before .before .before .before .before .before .args .judged .booleans + n) (counted .1 .0))
+    (counted .0 (c .before .before .before .before .before .before .before .before .before .before .before .args .judged .bases) (c .before .before .before .before .before .before .before .before .before .before .before .args .judged .booleans))
+    (c .before .before .put-clauses .ensures .1)
+    (c .before .before .put-clauses .ensures .0)
+
+pub write-spec : {M : Type 1} → statement M
+write-spec =
+    tie.close
+    (tie.spec
+    enum-told
+    enum-known-found
+    literals-between-requires
+    counts-requires
+    returns
+    put-clauses-requires
+    mul-variables
+    add-variables
+    add-variables-2
+    returns-2
+    same-length
+    returns-3)

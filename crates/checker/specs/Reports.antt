@@ -1,0 +1,86 @@
+-- The answers of the public functions, by number: what each case of an answer's enum is in the paper, and what a call is to answer and leave
+-- in its buffer.
+-- Assumes nothing.
+use Prim.Native.Nat.{ℕ}
+use mathlib.Core.Path.{_≡_}
+use mathlib.Core.Bool.{Bool, true, false, not}
+use mathlib.Core.List.{List}
+use lib.Dec.{eqb}
+use lib.IntN.{ℤ}
+use lib.ListN.{length}
+use Rattle.paper.specs.Answers.{Verdict, writtenOver}
+use Rattle.paper.specs.Answers as Paper
+use Rattle.query.specs.declared.Refusal.{Refusal}
+use Rattle.checker.specs.declared.Checked.{Checked}
+use Rattle.checker.specs.declared.Checked.the-variants.{Refused, Consistent, Conflict}
+use Rattle.checker.specs.declared.Looked.{Looked}
+use Rattle.checker.specs.declared.Looked.the-variants.{Refused as NotLooked, Value}
+use Rattle.checker.specs.declared.Written.{Written}
+use Rattle.checker.specs.declared.Written.the-variants.{Refused as NotWritten, Clauses}
+
+-- A check's report: the verdict, the refusal with its offset, the pairs, and the length of the lemma
+pub record Report : Type 0 where
+  pub verdict : Verdict
+  pub refusal : ℕ
+  pub offset : ℕ
+  pub pairs : ℕ
+  pub length : ℕ
+
+-- what each case of the answer is
+abbrev pub reportOf : Checked → Report
+reportOf (Refused refusal) = record { verdict = Verdict.refused; refusal = refusal .number; offset = refusal .offset; pairs = 0; length = 0 }
+reportOf (Consistent pairs) = record { verdict = Verdict.consistent; refusal = 0; offset = 0; pairs = pairs; length = 0 }
+reportOf (Conflict pairs length) = record { verdict = Verdict.inConflict; refusal = 0; offset = 0; pairs = pairs; length = length }
+
+-- what the paper's answer reports
+abbrev pub reported : Paper.Checked → Report
+reported answer =
+    record { verdict = answer .verdict; refusal = answer .refusal; offset = answer .offset; pairs = answer .pairs; length = length (answer .written) }
+
+-- a check's answer and the buffer that it leaves are the paper's
+pub record CheckedAs (answer : Paper.Checked) (before after : List ℕ) (r : Checked) : Type 0 where
+  pub report : reportOf r ≡ reported answer
+  pub buffer : after ≡ writtenOver before (answer .written)
+
+-- A lookup's report: the refusal with its offset, if there is one, and the value
+pub record LookReport : Type 0 where
+  pub refused : Bool
+  pub refusal : ℕ
+  pub offset : ℕ
+  pub value : ℕ
+
+abbrev pub lookReportOf : Looked → LookReport
+lookReportOf (NotLooked refusal) = record { refused = true; refusal = refusal .number; offset = refusal .offset; value = 0 }
+lookReportOf (Value value) = record { refused = false; refusal = 0; offset = 0; value = value }
+
+abbrev pub lookReported : Paper.Looked → LookReport
+lookReported answer = record { refused = not (eqb (answer .refusal) 0); refusal = answer .refusal; offset = answer .offset; value = answer .value }
+
+-- The clause writer's report: the refusal with its offset, if there is one, and the totals
+pub record WriteReport : Type 0 where
+  pub refused : Bool
+  pub refusal : ℕ
+  pub offset : ℕ
+  pub variables : ℕ
+  pub clauses : ℕ
+  pub count : ℕ
+
+abbrev pub writeReportOf : Written → WriteReport
+writeReportOf (NotWritten refusal) = record { refused = true; refusal = refusal .number; offset = refusal .offset; variables = 0; clauses = 0; count = 0 }
+writeReportOf (Clauses totals) = record { refused = false; refusal = 0; offset = 0; variables = totals .variables; clauses = totals .clauses; count = totals .count }
+
+abbrev pub writeReported : Paper.Written → WriteReport
+writeReported answer =
+    record {
+      refused = not (eqb (answer .refusal) 0);
+      refusal = answer .refusal;
+      offset = answer .offset;
+      variables = answer .variables;
+      clauses = answer .clauses;
+      count = length (answer .written);
+    }
+
+-- the clause writer's answer and the run that it leaves are the paper's
+pub record WrittenAs (answer : Paper.Written) (before after : List ℤ) (r : Written) : Type 0 where
+  pub report : writeReportOf r ≡ writeReported answer
+  pub run : after ≡ writtenOver before (answer .written)

@@ -1,0 +1,332 @@
+// The public functions: a check of one query, a lookup of one cell of its model, and its clauses. They take any bytes and any lent buffer.
+ghost use mathlib.Core.Path.{_≡_};
+ghost use mathlib.Core.Option.{some};
+ghost use Rattle.terms.specs.Rows.{Loadable};
+ghost use Rattle.lemma.specs.Pairs.{pairIn};
+ghost use Prim.Native.Nat.{_<_, _≤_};
+ghost use Rattle.checker.specs.Held.{holdsOf, modelIn};
+ghost use Rattle.checker.specs.Judged.{JudgedFrom, Judgeable, Between, Concluded, LookedIn, WrittenIn, ExaminedFrom};
+ghost use Rattle.checker.specs.Reports.{CheckedAs, lookReportOf, lookReported, WrittenAs};
+ghost use Rattle.paper.specs.Answers as Paper;
+ghost use lib.ListN.{length};
+use lemma::Found;
+use lemma::Literals;
+use query::Refusal;
+use terms::Edges;
+use terms::Guess;
+use terms::Sources;
+use terms::Terms;
+
+// "the answer is longer than the lent buffer"
+const NO_ROOM: u8 = 10;
+
+// "lookup: the array number isn't in the query", or the index is none
+const NO_CELL: u8 = 11;
+
+// "lookup on a query in conflict; clauses for a consistent query"
+const OTHER_VERDICT: u8 = 12;
+
+// Indices and values are those below 2^32.
+const WIDTH: usize = 32;
+
+const INDICES: u64 = 4294967296;
+
+// What a check answers: a refusal; consistent, with the pairs; or a conflict, with the pairs and the length of the lemma.
+pub enum Checked {
+    Refused(Refusal),
+    Consistent(usize),
+    Conflict(usize, usize),
+}
+
+// What a lookup answers: a refusal, or the model's value.
+pub enum Looked {
+    Refused(Refusal),
+    Value(u64),
+}
+
+// What the clause writer answers: a refusal; or the variables, the clauses and how many numbers were written.
+pub struct Totals {
+    pub variables: usize,
+    pub clauses: usize,
+    pub count: usize,
+}
+
+pub enum Written {
+    Refused(Refusal),
+    Clauses(Totals),
+}
+
+// What the terms and the guess come to: sources, edges, rows of marks, the counts of the terms, the pairs, and the conflicting pair.
+pub struct Judged {
+    pub sources: Sources,
+    pub edges: Edges,
+    pub rows: [u64; 304],
+    pub arrays: usize,
+    pub bases: usize,
+    pub booleans: usize,
+    pub pairs: usize,
+    pub found: Found,
+}
+
+fn judge(terms: Terms, guess: Guess) -> Judged
+    requires { ⌜ Loadable terms guess ⌝ }
+    ensures { λ r. ⌜ JudgedFrom terms guess r ⌝ }
+{
+    let sources = terms::graph::sources(terms, guess);
+    let edges = terms::graph::edges(terms, guess);
+    let arrays = terms.arrays;
+    let mut rows = [0u64; 304];
+    let mut next = [0u16; 304];
+    let pairs = reach::mark(edges, sources, arrays, &mut rows, &mut next);
+    let found = lemma::first_pair(sources, &rows, &next);
+    Judged {
+        sources,
+        edges,
+        rows,
+        arrays,
+        bases: terms.bases,
+        booleans: terms.booleans,
+        pairs,
+        found,
+    }
+}
+
+// The literals of the lemma for a conflicting pair: hop counts are only made here, where there is a conflict.
+fn literals_between(judged: Judged, first: usize, later: usize) -> Literals
+    requires { ⌜ Judgeable judged × (pairIn (judged .sources) (judged .rows) ≡ some (record { first = first; later = later })) ⌝ }
+    ensures { λ r. ⌜ Between (judged .edges) (judged .sources) (judged .arrays) first later r ⌝ }
+{
+    let sources = judged.sources;
+    let edges = judged.edges;
+    let arrays = judged.arrays;
+    let x = sources.index_value[first];
+    let from = sources.origin[first] as usize;
+    let goal = sources.origin[later] as usize;
+    let hops = reach::hops(edges, x, arrays);
+    let path = lemma::shortest_path(edges, &hops, x, arrays, from, goal);
+    let index = sources.index[first];
+    let later_index = sources.index[later];
+    let value = sources.value[first];
+    let later_value = sources.value[later];
+    lemma::literals_of(edges, path, index, later_index, value, later_value)
+}
+
+// The answer of a check, once the tables are judged.
+fn conclude(judged: Judged, answer: &mut [u8]) -> Checked
+    requires { ⌜ Judgeable judged ⌝ }
+    ensures { λ r. ⌜ Concluded judged (now (answer .entry)) (now (answer .exit)) r ⌝ }
+{
+    let found = judged.found;
+    match found {
+        Found::Nothing => Checked::Consistent(judged.pairs),
+        Found::Pair(first, later) => {
+            let literals = literals_between(judged, first, later);
+            let length = lemma::lemma_length(literals);
+            if answer.len() < length {
+                return Checked::Refused(Refusal {
+                    number: NO_ROOM,
+                    offset: 0,
+                });
+            }
+            let written = lemma::put_lemma(literals, answer);
+            Checked::Conflict(judged.pairs, written)
+        }
+    }
+}
+
+// Checks a query: whether any memories fit its guess. In a conflict the lemma's bytes stand first in the answer buffer.
+pub fn check(query: &[u8], answer: &mut [u8]) -> Checked
+    ensures { λ r. ⌜ CheckedAs (Paper.check 32 (now (query .entry)) (length (now (answer .entry)))) (now (answer .entry)) (now (answer .exit)) r ⌝ }
+{
+    let loaded = terms::load(query);
+    let number = loaded.refusal;
+    let offset = loaded.offset;
+    if number != 0 {
+        return Checked::Refused(Refusal { number, offset });
+    }
+    let terms = loaded.terms;
+    let guess = loaded.guess;
+    let judged = judge(terms, guess);
+    conclude(judged, answer)
+}
+
+// Does a source of this index value and row reach the array term with the index?
+fn holds(value: u64, index: u64, row: u64, array: usize) -> bool
+    requires { ⌜ array < 48 ⌝ }
+    ensures { λ r. ⌜ r ≡ holdsOf value index row array ⌝ }
+{
+    if value != index {
+        return false;
+    }
+    (row >> array) % 2 == 1
+}
+
+// The model's value: that of the first source that reaches the array term with the index value, and 0 where there is none.
+fn value_at(judged: Judged, array: usize, index: u64) -> u64
+    requires { ⌜ (array < 48) × (judged .sources .count ≤ 304) ⌝ }
+    ensures { λ r. ⌜ r ≡ modelIn (judged .sources) (judged .rows) array index ⌝ }
+{
+    let sources = judged.sources;
+    let rows = judged.rows;
+    let count = sources.count;
+    let mut k = 0;
+    while k < count {
+        if holds(sources.index_value[k], index, rows[k], array) {
+            return sources.assigned[k];
+        }
+        k += 1;
+    }
+    0
+}
+
+// The answer of a lookup, once the tables are judged: 12, then 11.
+fn look(judged: Judged, array: u64, index: u64) -> Looked
+    requires { ⌜ Judgeable judged ⌝ }
+    ensures { λ r. ⌜ LookedIn judged array index r ⌝ }
+{
+    let found = judged.found;
+    match found {
+        Found::Pair(_, _) => Looked::Refused(Refusal {
+            number: OTHER_VERDICT,
+            offset: 0,
+        }),
+        Found::Nothing => {
+            if judged.arrays as u64 <= array {
+                return Looked::Refused(Refusal {
+                    number: NO_CELL,
+                    offset: 0,
+                });
+            }
+            if INDICES <= index {
+                return Looked::Refused(Refusal {
+                    number: NO_CELL,
+                    offset: 0,
+                });
+            }
+            let place = array as usize;
+            Looked::Value(value_at(judged, place, index))
+        }
+    }
+}
+
+// Looks one cell of the model up: the value at an array term and an index.
+pub fn lookup(query: &[u8], array: u64, index: u64) -> Looked
+    ensures { λ r. ⌜ lookReportOf r ≡ lookReported (Paper.look 32 (now (query .entry)) array index) ⌝ }
+{
+    let loaded = terms::load(query);
+    let number = loaded.refusal;
+    let offset = loaded.offset;
+    if number != 0 {
+        return Looked::Refused(Refusal { number, offset });
+    }
+    let terms = loaded.terms;
+    let guess = loaded.guess;
+    let judged = judge(terms, guess);
+    look(judged, array, index)
+}
+
+// The answer of the clause writer, once the tables are judged: 12, then 10.
+fn write(judged: Judged, numbers: &mut [i32]) -> Written
+    requires { ⌜ Judgeable judged ⌝ }
+    ensures { λ r. ⌜ WrittenIn judged (now (numbers .entry)) (now (numbers .exit)) r ⌝ }
+{
+    let found = judged.found;
+    match found {
+        Found::Nothing => Written::Refused(Refusal {
+            number: OTHER_VERDICT,
+            offset: 0,
+        }),
+        Found::Pair(first, later) => {
+            let literals = literals_between(judged, first, later);
+            let counts = cnf::counts(literals, WIDTH);
+            if numbers.len() < counts.numbers {
+                return Written::Refused(Refusal {
+                    number: NO_ROOM,
+                    offset: 0,
+                });
+            }
+            let bases = judged.bases;
+            let booleans = judged.booleans;
+            let count = cnf::put_clauses(literals, bases, booleans, WIDTH, numbers);
+            let variables = WIDTH * bases + booleans + counts.fresh;
+            Written::Clauses(Totals {
+                variables,
+                clauses: counts.clauses,
+                count,
+            })
+        }
+    }
+}
+
+// Writes the clauses of a query in conflict: a run of signed numbers, each clause closed by 0.
+pub fn clauses(query: &[u8], numbers: &mut [i32]) -> Written
+    ensures { λ r. ⌜ WrittenAs (Paper.writeClauses 32 (now (query .entry)) (length (now (numbers .entry)))) (now (numbers .entry)) (now (numbers .exit)) r ⌝ }
+{
+    let loaded = terms::load(query);
+    let number = loaded.refusal;
+    let offset = loaded.offset;
+    if number != 0 {
+        return Written::Refused(Refusal { number, offset });
+    }
+    let terms = loaded.terms;
+    let guess = loaded.guess;
+    let judged = judge(terms, guess);
+    write(judged, numbers)
+}
+
+// What a query comes to: its refusal with the offset, or 0 and the tables. For a program that prints the cells of the model.
+pub struct Examined {
+    pub refusal: u8,
+    pub offset: usize,
+    pub judged: Judged,
+}
+
+fn nothing_judged() -> Judged {
+    Judged {
+        sources: Sources {
+            origin: [0; 304],
+            index: [0; 304],
+            value: [0; 304],
+            index_value: [0; 304],
+            assigned: [0; 304],
+            count: 0,
+        },
+        edges: Edges {
+            left: [0; 112],
+            right: [0; 112],
+            guard: [0; 112],
+            number: [0; 112],
+            closed: [0; 112],
+            count: 0,
+        },
+        rows: [0; 304],
+        arrays: 0,
+        bases: 0,
+        booleans: 0,
+        pairs: 0,
+        found: Found::Nothing,
+    }
+}
+
+pub fn examine(query: &[u8]) -> Examined
+    ensures { λ r. ⌜ ExaminedFrom (now (query .entry)) r ⌝ }
+{
+    let loaded = terms::load(query);
+    let refusal = loaded.refusal;
+    let offset = loaded.offset;
+    if refusal != 0 {
+        return Examined {
+            refusal,
+            offset,
+            judged: nothing_judged(),
+        };
+    }
+    let terms = loaded.terms;
+    let guess = loaded.guess;
+    let judged = judge(terms, guess);
+    Examined {
+        refusal: 0,
+        offset: 0,
+        judged,
+    }
+}

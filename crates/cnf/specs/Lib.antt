@@ -1,0 +1,2 @@
+-- What the clause writer's functions put, in the paper's words.
+pub mod Parts

@@ -1,0 +1,7 @@
+-- The laws that the functions' proofs cite.
+pub mod Ranges
+pub mod Pairing
+pub mod Taken
+pub mod Stepping
+pub mod Listing
+pub mod Spelling

@@ -1,0 +1,258 @@
+-- A step of the path: the code's choice by hop counts is the paper's choice by distances.
+-- Assumes nothing.
+use Prim.Native.Nat.{ℕ, zero, suc, _+_, _-_, _<_, _≤_}
+use native.Mathlib.Nat.{add-comm, sub-zero, not-suc-le-zero}
+use native.Mathlib.Numerals.{add-one}
+use native.Mathlib.Omega.{arith}
+use mathlib.Core.Path.{_≡_, refl, sym, ap, _∙_, subst}
+use mathlib.Core.Bool.{Bool, true, false, cond, false≢true}
+use mathlib.Core.List.{List, [], _∷_, _++_, map, map-append, append-nil, nil≢cons, Memᴰ·of-map}
+use mathlib.Core.Option.{Option, none, some, Option·getD}
+use borrow.Author.Tests.{eqb-true, ne-eqb}
+use lib.Dec.{eqb}
+use lib.ListN.{length, getD, set, take, length-set}
+use lib.Seq.{take-suc-set, append-snoc}
+use Rattle.paper.specs.Lists.{isSome, mapOption, bindOption, keep, find, range}
+use Rattle.paper.specs.Edges.{Guard, Edge}
+use Rattle.paper.specs.Reach.{Walk, stay, step, across, near, stepCost, costs}
+use Rattle.paper.specs.Lemma.{sameDistance, leadsNearer, pathFrom}
+use Rattle.meaning.proofs.Lists.{find-in, find-same, keep-in, range-in}
+use Rattle.meaning.proofs.Walks.{Ranged}
+use Rattle.meaning.proofs.Distances.{entry-inside}
+use Rattle.meaning.proofs.Paths.{entry-is-least, path-found}
+use Rattle.terms.specs.declared.Edges.{Edges}
+use Rattle.terms.specs.Graph.{edgeAt, openAt, opened}
+use Rattle.reach.specs.Reached.{Ends, hopOf, reachedIn}
+use Rattle.lemma.specs.Steps.{hopAt, otherEnd, nearerBy, nearerEdge, HopsOf}
+use Rattle.lemma.proofs.Ranges.{stored-below}
+
+-- the other end is an array term
+pub other-end-in : (e : Edges) (n a k : ℕ) → Ends e n → a < n → k < e .count → otherEnd e k a < n
+other-end-in e n a k ends inside numbered = left (eqb (getD (e .left) k 0) a)
+  where
+    right : (here : Bool) → Option·getD (cond here (some (getD (e .left) k 0)) none) a < n
+    right true = ends .left k numbered
+    right false = inside
+
+    left : (here : Bool) → Option·getD (cond here (some (getD (e .right) k 0)) (cond (eqb (getD (e .right) k 0) a) (some (getD (e .left) k 0)) none)) a < n
+    left true = ends .right k numbered
+    left false = right (eqb (getD (e .right) k 0) a)
+
+pub ends-wider : (e : Edges) (n : ℕ) → Ends e n → Ends e 48
+ends-wider e n ends =
+    record {
+      edges = ends .edges;
+      arrays = omega arith;
+      left = λ k numbered. omega (arith, ends .arrays, ends .left k numbered);
+      right = λ k numbered. omega (arith, ends .arrays, ends .right k numbered);
+    }
+
+-- the first of what is kept and put through f, by one test of what was there
+find-kept : {A B : Type 0} (f : A → B) (kept : A → Bool) (test : B → Bool) (xs : List A)
+    → find test (map f (keep kept xs)) ≡ mapOption f (find (λ x. cond (kept x) (test (f x)) false) xs)
+find-kept f kept test [] = refl
+find-kept {A} {B} f kept test (x ∷ xs) = go (kept x) (find-kept f kept test xs)
+  where
+    later : Option A
+    later = find (λ y. cond (kept y) (test (f y)) false) xs
+
+    first : (passes : Bool) → cond passes (some (f x)) (mapOption f later) ≡ mapOption f (cond passes (some x) later)
+    first true = refl
+    first false = refl
+
+    go : (here : Bool) → find test (map f (keep kept xs)) ≡ mapOption f later
+        → find test (map f (cond here (x ∷ keep kept xs) (keep kept xs))) ≡ mapOption f (cond (cond here (test (f x)) false) (some x) later)
+    go true below = ap (λ (rest : Option B). cond (test (f x)) (some (f x)) rest) below ∙ first (test (f x))
+    go false below = below
+
+both : (one other : Bool) → cond one other false ≡ true → (one ≡ true) × (other ≡ true)
+both true other passes = (refl, passes)
+both false other passes = absurd (false≢true passes)
+
+-- every step costs 1
+step-one : (guard : Guard) → stepCost guard ≡ 1
+step-one (Guard.differ index) = refl
+step-one (Guard.isTrue m) = refl
+step-one (Guard.isFalse m) = refl
+
+step-positive : (guard : Guard) → 0 < stepCost guard
+step-positive guard = omega (arith, step-one guard)
+
+cost-length : (walked : List Edge) → costs stepCost walked ≡ length walked
+cost-length [] = refl
+cost-length (edge ∷ walked) = omega (arith, step-one (edge .guard), cost-length walked)
+
+-- a walk over no edge stays where it is
+no-step : {among walked : List Edge} {a c : ℕ} → Walk among a walked c → walked ≡ [] → a ≡ c
+no-step stay e = refl
+no-step (step first joined rest) e = absurd (nil≢cons (sym e))
+
+module _ (e : Edges) (x n goal : ℕ) where
+  -- the table of distances
+  abbrev pub table : List (Option ℕ)
+  table = near stepCost (opened e x) n goal n
+
+  abbrev pub pathOf : (bound a : ℕ) → List Edge
+  pathOf bound a = pathFrom stepCost bound (opened e x) table a
+
+  -- edge k is open and leads one step nearer, and the path goes on from its other end
+  pub record Onward (a d k : ℕ) : Type 0 where
+    pub numbered : k < e .count
+    pub open-to : openAt e x k ≡ true
+    pub rest : ℕ
+    pub known : getD table (otherEnd e k a) none ≡ some rest
+    pub nearer : rest + 1 ≡ d
+    pub goes-on : (bound : ℕ) → pathOf (suc bound) a ≡ edgeAt e k ∷ pathOf bound (otherEnd e k a)
+
+  -- on the way from an array term: the numbers of the edges walked so far, with the path from here, are the whole path
+  pub record Walking (from a steps : ℕ) (walked : List ℕ) : Type 0 where
+    pub distance : ℕ
+    pub known : getD table a none ≡ some distance
+    pub short : steps + distance < n
+    pub room : length walked ≡ 48
+    pub done : map (edgeAt e) (take steps walked) ++ pathOf (n - steps) a ≡ pathOf n from
+    pub numbered : (k : ℕ) → k < steps → getD walked k 0 < e .count
+    pub open-to : (k : ℕ) → k < steps → openAt e x (getD walked k 0) ≡ true
+
+  pub walking-in : {from a steps : ℕ} {walked : List ℕ} → Walking from a steps walked → a < n
+  walking-in way = entry-inside stepCost (opened e x) n goal n (way .known)
+
+  module _ (ends : Ends e n) where
+    opened-ranged : Ranged n (opened e x)
+    opened-ranged edge here =
+        let from = Memᴰ·of-map (edgeAt e) (keep (openAt e x) (range 0 (e .count))) here in
+        let inside = range-in 0 (e .count) (keep-in (openAt e x) (range 0 (e .count)) (from .1) .0) .1 in
+        let numbered : from .0 < e .count = omega (arith, inside) in
+        subst (λ (one : Edge). (one .left < n) × (one .right < n)) (from .2) (ends .left (from .0) numbered, ends .right (from .0) numbered)
+
+    -- a distance is less than the number of array terms
+    distance-less : (a d : ℕ) → getD table a none ≡ some d → d < n
+    distance-less a d known =
+        let found = path-found stepCost (opened e x) n goal opened-ranged step-positive known in
+        omega (arith, found .0 .total, found .1, cost-length (pathOf n a))
+
+    pub walking-start : (from : ℕ) (walked : List ℕ) → length walked ≡ 48 → reachedIn e n x goal from ≡ true → Walking from from 0 walked
+    unfolding reachedIn
+    walking-start from walked room reached = go (getD table from none) refl reached
+      where
+        go : (there : Option ℕ) → getD table from none ≡ there → isSome there ≡ true → Walking from from 0 walked
+        go none known reached = absurd (false≢true reached)
+        go (some d) known reached =
+            record {
+              distance = d;
+              known = known;
+              short = omega (arith, distance-less from d known);
+              room = room;
+              done = rw (sub-zero n);
+              numbered = λ k below. absurd (not-suc-le-zero below);
+              open-to = λ k below. absurd (not-suc-le-zero below);
+            }
+
+    module _ (hops : List (List ℕ)) (hops-are : HopsOf e x n hops) (goal-in : goal < n) where
+      nearer-same : (a d k : ℕ) → k < e .count → a < n → getD table a none ≡ some d → d < 256
+          → eqb (hopAt hops (otherEnd e k a) goal + 1) (hopAt hops a goal) ≡ leadsNearer stepCost table a (edgeAt e k)
+      nearer-same a d k numbered inside known small = rw (hops-are a goal inside goal-in, known) (go (across a (edgeAt e k)) refl)
+        where
+          onward : (b : ℕ) → (there : Option ℕ) → getD table b none ≡ there
+              → eqb (hopOf there + 1) d ≡ sameDistance (mapOption (λ distance. stepCost (edgeAt e k .guard) + distance) there) (some d)
+          onward b none there = ne-eqb (255 + 1) d (λ same. omega (arith, same, small))
+          onward b (some d′) there = rw (step-one (edgeAt e k .guard)) (ap (λ (far : ℕ). eqb far d) (add-comm d′ 1))
+
+          go : (end : Option ℕ) → across a (edgeAt e k) ≡ end
+              → eqb (hopAt hops (Option·getD end a) goal + 1) d
+              ≡ sameDistance (bindOption end (λ to. mapOption (λ distance. stepCost (edgeAt e k .guard) + distance) (getD table to none))) (some d)
+          go none joined = rw (hops-are a goal inside goal-in, known) (ne-eqb (d + 1) d (λ same. omega (arith, same)))
+          go (some b) joined =
+              let within : b < n = subst (λ (end : Option ℕ). Option·getD end a < n) joined (other-end-in e n a k ends inside numbered) in
+              rw (hops-are b goal within goal-in) (onward b (getD table b none) refl)
+
+      module _ (a d : ℕ) (known : getD table a none ≡ some d) (small : d < 256) where
+        inside : a < n
+        inside = entry-inside stepCost (opened e x) n goal n known
+
+        -- the code's choice is the paper's
+        chosen-same : find (leadsNearer stepCost table a) (opened e x) ≡ mapOption (edgeAt e) (find (nearerBy e hops x a goal) (range 0 (e .count)))
+        chosen-same =
+            find-kept (edgeAt e) (openAt e x) (leadsNearer stepCost table a) (range 0 (e .count))
+            ∙ ap (mapOption (edgeAt e))
+            (find-same (range 0 (e .count))
+            (λ k here. ap (λ (b : Bool). cond (openAt e x k) b false) (sym (nearer-same a d k (omega (arith, range-in 0 (e .count) here .1)) inside known small))))
+
+        taken : (k : ℕ) → find (nearerBy e hops x a goal) (range 0 (e .count)) ≡ some k → Onward a d k
+        taken k found =
+            let chosen = find-in (nearerBy e hops x a goal) (range 0 (e .count)) found in
+            let numbered : k < e .count = omega (arith, range-in 0 (e .count) (chosen .0) .1) in
+            let passes = both (openAt e x k) (eqb (hopAt hops (otherEnd e k a) goal + 1) (hopAt hops a goal)) (chosen .1) in
+            let further = other-end-in e n a k ends inside numbered in
+            let nearer = eqb-true (hopAt hops (otherEnd e k a) goal + 1) (hopAt hops a goal) (passes .1) in
+            let sums : hopOf (getD table (otherEnd e k a) none) + 1 ≡ d = rw (← hops-are (otherEnd e k a) goal further goal-in) (nearer ∙ hops-are a goal inside goal-in ∙ ap hopOf known) in
+            let rest = at-distance (getD table (otherEnd e k a) none) refl sums in
+            record {
+              numbered = numbered;
+              open-to = passes .0;
+              rest = rest .0;
+              known = rest .1;
+              nearer = rest .2;
+              goes-on = λ bound. rw (chosen-same, found);
+            }
+          where
+            at-distance : (there : Option ℕ) → getD table (otherEnd e k a) none ≡ there → hopOf there + 1 ≡ d
+                → (rest : ℕ) × (getD table (otherEnd e k a) none ≡ some rest) × (rest + 1 ≡ d)
+            at-distance none there sums = absurd (omega (arith, sums, small))
+            at-distance (some rest) there sums = (rest, there, sums)
+
+        -- where no edge leads nearer, the path ends
+        no-way : find (leadsNearer stepCost table a) (opened e x) ≡ none → (bound : ℕ) → pathOf bound a ≡ []
+        no-way nothing zero = refl
+        no-way nothing (suc bound) = rw nothing
+
+        -- away from the goal some edge leads nearer, and at the goal none does
+        onward : (a ≡ goal → ⊥) → Onward a d (nearerEdge e hops x a goal)
+        unfolding nearerEdge
+        onward away = go (find (nearerBy e hops x a goal) (range 0 (e .count))) refl
+          where
+            go : (choice : Option ℕ) → find (nearerBy e hops x a goal) (range 0 (e .count)) ≡ choice → Onward a d (Option·getD choice (e .count))
+            go none nothing =
+                let found = path-found stepCost (opened e x) n goal opened-ranged step-positive known in
+                absurd (away (no-step (found .0 .way) (no-way (chosen-same ∙ ap (mapOption (edgeAt e)) nothing) n)))
+            go (some k) found = taken k found
+
+        arrived : a ≡ goal → (bound : ℕ) → pathOf bound a ≡ []
+        arrived here bound = go (find (nearerBy e hops x a goal) (range 0 (e .count))) refl
+          where
+            go : (choice : Option ℕ) → find (nearerBy e hops x a goal) (range 0 (e .count)) ≡ choice → pathOf bound a ≡ []
+            go none nothing = no-way (chosen-same ∙ ap (mapOption (edgeAt e)) nothing) bound
+            go (some k) found =
+                let near-goal = entry-is-least stepCost (opened e x) n goal opened-ranged known .least [] (subst (λ (c : ℕ). Walk (opened e x) a [] c) here stay) in
+                absurd (omega (arith, near-goal, taken k found .nearer))
+
+      -- one step further
+      pub walking-on : (from a steps : ℕ) (walked : List ℕ) → n ≤ 48 → (a ≡ goal → ⊥) → Walking from a steps walked
+          → Walking from (otherEnd e (nearerEdge e hops x a goal) a) (steps + 1) (set walked steps (nearerEdge e hops x a goal))
+      walking-on from a steps walked few away way =
+          let k = nearerEdge e hops x a goal in
+          let next = onward a (way .distance) (way .known) (omega (arith, way .short)) away in
+          let more : n - steps ≡ suc (n - (steps + 1)) = omega (arith, way .short) in
+          let fits : steps < length walked = omega (arith, way .short, way .room) in
+          let before = map (edgeAt e) (take steps walked) in
+          let after = pathOf (n - (steps + 1)) (otherEnd e k a) in
+          let one-more : take (steps + 1) (set walked steps k) ≡ take steps walked ++ (k ∷ []) = rw (add-one steps) (take-suc-set walked steps k fits) in
+          let longer : map (edgeAt e) (take (steps + 1) (set walked steps k)) ++ after ≡ before ++ (edgeAt e k ∷ after) = rw (one-more, map-append (edgeAt e)) (append-snoc before (edgeAt e k) after) in
+          record {
+            distance = next .rest;
+            known = next .known;
+            short = omega (arith, way .short, next .nearer);
+            room = length-set walked steps k ∙ way .room;
+            done = longer ∙ ap (λ (rest : List Edge). before ++ rest) (sym (next .goes-on (n - (steps + 1))) ∙ ap (λ (m : ℕ). pathOf m a) (sym more)) ∙ way .done;
+            numbered = stored-below (λ i. i < e .count) walked steps k 0 fits (way .numbered) (next .numbered);
+            open-to = stored-below (λ i. openAt e x i ≡ true) walked steps k 0 fits (way .open-to) (next .open-to);
+          }
+
+      -- the edge that is taken stands in the table
+      pub chosen-in : (from a steps : ℕ) (walked : List ℕ) → n ≤ 48 → (a ≡ goal → ⊥) → Walking from a steps walked → nearerEdge e hops x a goal < e .count
+      chosen-in from a steps walked few away way = onward a (way .distance) (way .known) (omega (arith, way .short)) away .numbered
+
+      pub walking-end : (from a steps : ℕ) (walked : List ℕ) → n ≤ 48 → a ≡ goal → Walking from a steps walked → map (edgeAt e) (take steps walked) ≡ pathOf n from
+      walking-end from a steps walked few here way =
+          let last = arrived a (way .distance) (way .known) (omega (arith, way .short)) here (n - steps) in
+          sym (append-nil (map (edgeAt e) (take steps walked))) ∙ ap (λ (rest : List Edge). map (edgeAt e) (take steps walked) ++ rest) (sym last) ∙ way .done

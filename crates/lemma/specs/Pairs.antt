@@ -1,0 +1,47 @@
+-- 01, The lemma, over the code's tables: when two sources conflict, and the pair that is taken.
+-- Assumes nothing.
+use Prim.Native.Nat.{ℕ, _<_, _≤_}
+use mathlib.Core.Bool.{Bool, false, cond}
+use mathlib.Core.List.{List, [], _∷_}
+use mathlib.Core.Option.{Option, none, some}
+use lib.Dec.{eqb}
+use lib.ListN.{getD}
+use Rattle.paper.specs.Lists.{orElse, mapOption, find, range}
+use Rattle.terms.specs.declared.Sources.{Sources}
+use Rattle.reach.specs.Reached.{bit, originAt, valueAt, NextOf}
+use Rattle.lemma.specs.declared.Found.{Found}
+use Rattle.lemma.specs.declared.Found.the-variants.{Pair, Nothing}
+
+-- the numbers of s and t of the paper
+pub record Numbers : Type 0 where
+  pub first : ℕ
+  pub later : ℕ
+
+-- one source's value differs from another's, and its row has the other's origin
+abbrev pub clashOf : (one other row origin : ℕ) → Bool
+clashOf one other row origin = cond (eqb one other) false (eqb (bit row origin) 1)
+
+-- "Two sources conflict if their index values are equal, their values differ, and the first reaches the origin of the second"
+abbrev pub clashIn : Sources → (rows : List ℕ) → (i j : ℕ) → Bool
+clashIn s rows i j =
+    cond (eqb (valueAt s i) (valueAt s j)) (clashOf (getD (s .assigned) i 0) (getD (s .assigned) j 0) (getD rows i 0) (originAt s j)) false
+
+-- the first of a list of sources that clashes with a later one, and the first of those
+abbrev pub pairAmong : (clash : ℕ → ℕ → Bool) → List ℕ → Option Numbers
+pairAmong clash [] = none
+pairAmong clash (i ∷ later) = orElse (mapOption (λ j. record { first = i; later = j }) (find (clash i) later)) (pairAmong clash later)
+
+-- "the least first source s that stands in a pair with a later one, and with it the least later source t"
+unfoldable pub pairIn : Sources → (rows : List ℕ) → Option Numbers
+pairIn s rows = pairAmong (clashIn s rows) (range 0 (s .count))
+
+-- what the code's answer says
+abbrev pub foundOf : Found → Option Numbers
+foundOf (Pair i j) = some (record { first = i; later = j })
+foundOf Nothing = none
+
+-- the table of sources is within its bounds, and each source is linked to the next of its index value
+pub record Linked (s : Sources) (links : List ℕ) : Type 0 where
+  pub sources : s .count ≤ 304
+  pub origin : (k : ℕ) → k < s .count → originAt s k < 48
+  pub next : (k : ℕ) → k < s .count → NextOf s k (getD links k 0)

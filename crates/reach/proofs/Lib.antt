@@ -1,0 +1,10 @@
+-- The laws that the functions' proofs cite, bottom to top.
+pub mod Bits
+pub mod Counts
+pub mod Words
+pub mod Spreading
+pub mod Rows
+pub mod Values
+pub mod Links
+pub mod Levels
+pub mod Counted

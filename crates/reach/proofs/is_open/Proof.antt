@@ -1,0 +1,14 @@
+-- `reach::is_open` meets its contract: it tests what its contract tests, in that order.
+-- Assumes nothing.
+use borrow.Author.Tests.{eq-eqb, ne-eqb}
+use Rattle.reach.proofs.is_open.Statement.{statement}
+use Rattle.reach.proofs.is_open.Tie as tie
+
+returns : tie.Need-returns
+returns c = rw (eq-eqb _ 0 (c .if1 .taken))
+
+returns-2 : tie.Need-returns-2
+returns-2 c = rw (ne-eqb _ 0 (c .if1 .left))
+
+pub is-open-spec : {M : Type 1} → statement M
+is-open-spec = tie.close (tie.spec returns returns-2)
