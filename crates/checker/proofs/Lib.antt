@@ -7,3 +7,5 @@ pub mod Holding
 pub mod Sizes
 pub mod Cells
 pub mod Runs
+pub mod Told
+pub mod Headline
