@@ -176,7 +176,7 @@ module _ (e : Edges) (path : Path) (i j : ℕ) where
       go true = refl
       go false = refl
 
-  module _ (walked : Walked e path) (step : ℕ) (inside : step < path .count) (literals : Literals) (one : OneLiteral) (is : EdgeLiteral e (getD (path .edges) step 0) i one) where
+  module _ (walked : Walked e path) (step : ℕ) (inside : step < path .count) (literals : Literals) (one : OneLiteral) (is : EdgeLiteral (edgeAt e (getD (path .edges) step 0) .guard) i one) where
     along-step : along step ≡ literalIn one ∷ along (step + 1)
     along-step =
         let few : path .count ≤ length (path .edges) = omega (arith, walked .short, walked .whole) in

@@ -23,29 +23,29 @@ use Rattle.meaning.proofs.Paths.{entry-is-least, path-found}
 use Rattle.terms.specs.declared.Edges.{Edges}
 use Rattle.terms.specs.Graph.{edgeAt, openAt, opened}
 use Rattle.reach.specs.Reached.{Ends, hopOf, reachedIn}
-use Rattle.lemma.specs.Steps.{hopAt, otherEnd, nearerBy, nearerEdge, HopsOf}
+use Rattle.reach.proofs.Words.{lent}
+use Rattle.lemma.specs.Steps.{hopAt, otherEnd, farEnd, nearerBy, nearerEdge, HopsOf}
 use Rattle.lemma.proofs.Ranges.{stored-below}
 
 -- the other end is an array term
-pub other-end-in : (e : Edges) (n a k : ℕ) → Ends e n → a < n → k < e .count → otherEnd e k a < n
-other-end-in e n a k ends inside numbered = left (eqb (getD (e .left) k 0) a)
+pub far-end-in : (left right n a : ℕ) → left < n → right < n → a < n → farEnd left right a < n
+far-end-in left right n a left-in right-in inside = first (eqb left a)
   where
-    right : (here : Bool) → Option·getD (cond here (some (getD (e .left) k 0)) none) a < n
-    right true = ends .left k numbered
-    right false = inside
+    second : (here : Bool) → Option·getD (cond here (some left) none) a < n
+    second true = left-in
+    second false = inside
 
-    left : (here : Bool) → Option·getD (cond here (some (getD (e .right) k 0)) (cond (eqb (getD (e .right) k 0) a) (some (getD (e .left) k 0)) none)) a < n
-    left true = ends .right k numbered
-    left false = right (eqb (getD (e .right) k 0) a)
+    first : (here : Bool) → Option·getD (cond here (some right) (cond (eqb right a) (some left) none)) a < n
+    first true = right-in
+    first false = second (eqb right a)
 
-pub ends-wider : (e : Edges) (n : ℕ) → Ends e n → Ends e 48
-ends-wider e n ends =
-    record {
-      edges = ends .edges;
-      arrays = omega arith;
-      left = λ k numbered. omega (arith, ends .arrays, ends .left k numbered);
-      right = λ k numbered. omega (arith, ends .arrays, ends .right k numbered);
-    }
+pub other-end-in : (e : Edges) (n a k : ℕ) → Ends e n → a < n → k < e .count → otherEnd e k a < n
+other-end-in e n a k ends inside numbered = far-end-in (getD (e .left) k 0) (getD (e .right) k 0) n a (ends .left k numbered) (ends .right k numbered) inside
+
+-- the choice asks of the edges no more than a function is lent
+pub nearer-lent : (e : Edges) (hops : List (List ℕ)) (x a goal : ℕ) → nearerEdge (lent e) hops x a goal ≡ nearerEdge e hops x a goal
+unfolding nearerEdge
+nearer-lent e hops x a goal = refl
 
 -- the first of what is kept and put through f, by one test of what was there
 find-kept : {A B : Type 0} (f : A → B) (kept : A → Bool) (test : B → Bool) (xs : List A)

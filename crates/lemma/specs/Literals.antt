@@ -7,13 +7,17 @@ use mathlib.Core.List.{List, [], _∷_, _++_, map}
 use lib.Dec.{eqb}
 use lib.ListN.{length, getD}
 use Rattle.paper.specs.Lists.{any, range}
+use Rattle.paper.specs.Edges.{Guard}
 use Rattle.paper.specs.Lemma.{Literal, literalOf, tagged, equalIndices, hypotheses, fieldBytes}
 use Rattle.terms.specs.declared.Edges.{Edges}
-use Rattle.terms.specs.Graph.{edgeAt}
 use Rattle.lemma.specs.Steps.{walkedBy}
 use Rattle.lemma.specs.declared.Path.{Path}
 use Rattle.lemma.specs.declared.Literals.{Literals}
 use Rattle.lemma.specs.declared.OneLiteral.{OneLiteral}
+
+-- the literals of which a function is lent the arrays
+abbrev pub tableOf : (tags left right : List ℕ) (count : ℕ) → Literals
+tableOf tags left right count = record { tags = tags; left = left; right = right; count = count }
 
 -- by the tags of 01; any other tag reads as the conclusion
 abbrev pub literalFrom : (tag left right : ℕ) → Literal
@@ -29,6 +33,10 @@ literalAt literals k = literalFrom (getD (literals .tags) k 0) (getD (literals .
 
 unfoldable pub literalsOf : Literals → List Literal
 literalsOf literals = map (literalAt literals) (range 0 (literals .count))
+
+-- the bytes of a literal's field
+abbrev pub bytesOf : (tag left right : ℕ) → List ℕ
+bytesOf tag left right = fieldBytes (tagged (literalFrom tag left right))
 
 -- the bytes of literal k
 abbrev pub bytesAt : Literals → ℕ → List ℕ
@@ -63,19 +71,20 @@ pub record Roomy (literals : Literals) : Type 0 where
 abbrev pub literalIn : OneLiteral → Literal
 literalIn one = literalFrom (one .tag) (one .left) (one .right)
 
+-- are the tag and the term numbers the same?
+abbrev pub sameAs : (tag left right : ℕ) → OneLiteral → Bool
+sameAs tag left right one = cond (eqb (one .tag) tag) (cond (eqb (one .left) left) (eqb (one .right) right) false) false
+
 -- has literal k the same tag and term numbers?
 abbrev pub sameAt : Literals → OneLiteral → (k : ℕ) → Bool
-sameAt literals one k =
-    cond (eqb (one .tag) (getD (literals .tags) k 0))
-    (cond (eqb (one .left) (getD (literals .left) k 0)) (eqb (one .right) (getD (literals .right) k 0)) false)
-    false
+sameAt literals one k = sameAs (getD (literals .tags) k 0) (getD (literals .left) k 0) (getD (literals .right) k 0) one
 
 unfoldable pub standsIn : Literals → OneLiteral → Bool
 standsIn literals one = any (sameAt literals one) (range 0 (literals .count))
 
--- what the paper puts for edge k of the table: i is the index of s
-pub record EdgeLiteral (e : Edges) (k i : ℕ) (one : OneLiteral) : Type 0 where
-  pub same : literalIn one ≡ literalOf i (edgeAt e k .guard)
+-- what the paper puts for an edge, by its guard: i is the index of s
+pub record EdgeLiteral (guard : Guard) (i : ℕ) (one : OneLiteral) : Type 0 where
+  pub same : literalIn one ≡ literalOf i guard
   pub written : Written (one .tag) (one .right)
 
 -- "index of s equal to index of t (left out if both are one base number)"

@@ -2,13 +2,13 @@
 -- Assumes nothing.
 use Prim.Native.Nat.{ℕ, _+_, _<_}
 use mathlib.Core.Path.{_≡_}
-use mathlib.Core.Bool.{Bool, true, false, cond}
+use mathlib.Core.Bool.{Bool, true, false, cond, not}
 use mathlib.Core.List.{List, [], map}
 use mathlib.Core.Option.{none, Option·getD}
 use lib.Dec.{eqb}
 use lib.ListN.{length, getD, take}
 use Rattle.paper.specs.Lists.{find, range}
-use Rattle.paper.specs.Edges.{Edge}
+use Rattle.paper.specs.Edges.{Guard, Edge}
 use Rattle.paper.specs.Reach.{across, near, stepCost}
 use Rattle.paper.specs.Lemma.{pathFrom}
 use Rattle.terms.specs.declared.Edges.{Edges}
@@ -23,6 +23,15 @@ hopAt hops a b = getD (getD hops a []) b 0
 -- the other end of edge k, and a itself where the edge does not join it
 abbrev pub otherEnd : Edges → (k a : ℕ) → ℕ
 otherEnd e k a = Option·getD (across a (edgeAt e k)) a
+
+-- the same of the two ends alone
+abbrev pub farEnd : (left right a : ℕ) → ℕ
+farEnd left right a = Option·getD (across a (record { left = left; right = right; guard = Guard.differ 0 })) a
+
+-- is an edge open to x, and is its other end one step nearer to the goal than a?
+abbrev pub nearerOver : (left right guard closed : ℕ) → (hops : List (List ℕ)) → (x a goal : ℕ) → Bool
+nearerOver left right guard closed hops x a goal =
+    cond (cond (eqb guard 0) (not (eqb closed x)) true) (eqb (hopAt hops (farEnd left right a) goal + 1) (hopAt hops a goal)) false
 
 -- is edge k open to x, and is its other end one step nearer to the goal than a?
 abbrev pub nearerBy : Edges → (hops : List (List ℕ)) → (x a goal k : ℕ) → Bool

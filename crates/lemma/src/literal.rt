@@ -10,17 +10,15 @@ use crate::OneLiteral;
 use crate::Path;
 use terms::Edges;
 ghost use mathlib.Core.Path.{_≡_};
-ghost use Prim.Native.Nat.{_<_, _≤_};
-ghost use Rattle.lemma.specs.Literals.{sameAt, standsIn, EdgeLiteral, Opening, Walked, LemmaOf};
+ghost use Prim.Native.Nat.{_≤_};
+ghost use Rattle.terms.specs.Graph.{guardOf};
+ghost use Rattle.lemma.specs.Literals.{tableOf, sameAs, standsIn, EdgeLiteral, Opening, Walked, LemmaOf};
 
 // "for a write edge "index of s differs from the write's index", for a conditional its Boolean true or false, for an equality its Boolean
 // true"
-fn edge_literal(edges: Edges, k: usize, index: u16) -> OneLiteral
-    requires { ⌜ k < 112 ⌝ }
-    ensures { λ r. ⌜ EdgeLiteral edges k index r ⌝ }
+fn edge_literal(guard: u8, number: u16, index: u16) -> OneLiteral
+    ensures { λ r. ⌜ EdgeLiteral (guardOf guard number) index r ⌝ }
 {
-    let guard = edges.guard[k];
-    let number = edges.number[k] as u16;
     if guard == 0 {
         return OneLiteral {
             tag: DIFFER,
@@ -42,29 +40,33 @@ fn edge_literal(edges: Edges, k: usize, index: u16) -> OneLiteral
     }
 }
 
-// Are the tag and the term numbers those of literal k?
-fn is_literal(literals: Literals, k: usize, one: OneLiteral) -> bool
-    requires { ⌜ k < 49 ⌝ }
-    ensures { λ r. ⌜ r ≡ sameAt literals one k ⌝ }
+// Are the tag and the term numbers those of the literal?
+fn is_literal(tag: u8, left: u16, right: u16, one: OneLiteral) -> bool
+    ensures { λ r. ⌜ r ≡ sameAs tag left right one ⌝ }
 {
-    if one.tag != literals.tags[k] {
+    if one.tag != tag {
         return false;
     }
-    if one.left != literals.left[k] {
+    if one.left != left {
         return false;
     }
-    one.right == literals.right[k]
+    one.right == right
 }
 
 // Does the literal stand there already?
-fn stands(literals: Literals, one: OneLiteral) -> bool
-    requires { ⌜ literals .count ≤ 49 ⌝ }
-    ensures { λ r. ⌜ r ≡ standsIn literals one ⌝ }
+fn stands<'a>(
+    tags: &'a [u8; MAX_LITERALS],
+    left: &'a [u16; MAX_LITERALS],
+    right: &'a [u16; MAX_LITERALS],
+    count: usize,
+    one: OneLiteral,
+) -> bool
+    requires { ⌜ count ≤ 49 ⌝ }
+    ensures { λ r. ⌜ r ≡ standsIn (tableOf (now (tags .entry)) (now (left .entry)) (now (right .entry)) count) one ⌝ }
 {
-    let count = literals.count;
     let mut k = 0;
     while k < count {
-        if is_literal(literals, k, one) {
+        if is_literal(tags[k], left[k], right[k], one) {
             return true;
         }
         k += 1;
@@ -116,9 +118,9 @@ pub fn literals_of(
     let mut step = 0;
     while step < steps {
         let k = path.edges[step] as usize;
-        let one = edge_literal(edges, k, index as u16);
-        if !stands(literals, one) {
-            let at = literals.count;
+        let one = edge_literal(edges.guard[k], edges.number[k] as u16, index as u16);
+        let at = literals.count;
+        if !stands(&literals.tags, &literals.left, &literals.right, at, one) {
             literals.tags[at] = one.tag;
             literals.left[at] = one.left;
             literals.right[at] = one.right;

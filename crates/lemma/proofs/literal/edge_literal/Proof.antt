@@ -1,20 +1,10 @@
 -- `lemma::literal::edge_literal` meets its contract: each return is the case of the edge's guard that its tests pick. Assumes nothing.
 use mathlib.Core.Bool.{false≢true}
 use native.Mathlib.Omega.{arith}
-use borrow.Author.Needs.{needs}
 use borrow.Author.Tests.{eq-eqb, ne-eqb}
 use mathlib.Core.Path.{refl}
 use Rattle.lemma.proofs.literal.edge_literal.Statement.{statement}
 use Rattle.lemma.proofs.literal.edge_literal.Tie as tie
-
-element-copy-out-guard : tie.Need-element-copy-out-guard
-element-copy-out-guard c = search needs
-
-element-copy-out-number : tie.Need-element-copy-out-number
-element-copy-out-number c = search needs
-
-cast-number : tie.Need-cast-number
-cast-number c = search needs
 
 returns : tie.Need-returns
 returns c =
@@ -38,12 +28,4 @@ returns-3 c =
     }
 
 pub edge-literal-spec : {M : Type 1} → statement M
-edge-literal-spec =
-    tie.close
-    (tie.spec
-    element-copy-out-guard
-    element-copy-out-number
-    cast-number
-    returns
-    returns-2
-    returns-3)
+edge-literal-spec = tie.close (tie.spec returns returns-2 returns-3)

@@ -4,6 +4,7 @@ use Prim.Native.Nat.{_-_, _<_, _≤_}
 use native.Mathlib.Omega.{arith}
 use mathlib.Core.Path.{_≡_, sym, _∙_, subst}
 use mathlib.Core.Logic.{⊎-elim}
+use borrow.Author.Needs.{needs}
 use borrow.Author.Tests.{not-true, not-false}
 use lib.ListN.{getD}
 use Rattle.lemma.proofs.Listing.{Writing, writing-start, writing-again, writing-more, writing-end}
@@ -11,16 +12,16 @@ use Rattle.lemma.proofs.literal.literals_of.Statement.{statement}
 use Rattle.lemma.proofs.literal.literals_of.Tie as tie
 
 abbrev Inv-loop : tie.InvT-loop
-Inv-loop edges index later-index value later-value path literals₀ steps step₀ literals step = (step ≤ path .count) × Writing edges path index later-index step literals
+Inv-loop index later-index value later-value edges path literals₀ steps step₀ literals step = (step ≤ path .count) × Writing edges path index later-index step literals
 
 abbrev μ-loop : tie.MeasureT-loop
-μ-loop edges index later-index value later-value path literals₀ steps step₀ literals step = path .count - step
+μ-loop index later-index value later-value edges path literals₀ steps step₀ literals step = path .count - step
 
 opening-requires : tie.Need-opening-requires Inv-loop μ-loop
 opening-requires c κs = tt
 
 loop-holds : tie.Need-loop-holds Inv-loop μ-loop
-loop-holds c = (omega arith, writing-start (c .before .args .edges) (c .before .args .t2) (c .before .args .index) (c .before .args .later-index) (c .opening .result) (c .opening .ensures))
+loop-holds c = (omega arith, writing-start (c .before .args .t1) (c .before .args .t2) (c .before .args .index) (c .before .args .later-index) (c .opening .result) (c .opening .ensures))
 
 element-copy-out-k : tie.Need-element-copy-out-k Inv-loop μ-loop
 element-copy-out-k c = omega arith
@@ -33,11 +34,31 @@ in-table c =
 cast-k : tie.Need-cast-k Inv-loop μ-loop
 cast-k c = omega (arith, in-table c)
 
+element-copy-out-edge-literal : tie.Need-element-copy-out-edge-literal Inv-loop μ-loop
+element-copy-out-edge-literal c = in-table c
+
+element-copy-out-edge-literal-2 : tie.Need-element-copy-out-edge-literal-2 Inv-loop μ-loop
+element-copy-out-edge-literal-2 c = in-table (c .before)
+
+cast-edge-literal : tie.Need-cast-edge-literal Inv-loop μ-loop
+cast-edge-literal c = search needs
+
 edge-literal-requires : tie.Need-edge-literal-requires Inv-loop μ-loop
-edge-literal-requires c κs = in-table c
+edge-literal-requires c κs = tt
+
+-- the loop's test and its head, seen from an edge's literal
+abbrev tested : tie.After-edge-literal Inv-loop μ-loop → tie.In-loop Inv-loop μ-loop
+tested c = c .before .before .before .before
+
+abbrev head : tie.After-edge-literal Inv-loop μ-loop → tie.At-loop Inv-loop μ-loop
+head c = tested c .before
 
 stands-requires : tie.Need-stands-requires Inv-loop μ-loop
-stands-requires c κs = c .before .before .before .loop .inv .1 .proper .most
+stands-requires c κs = head (c .before .before .before .before) .loop .inv .1 .proper .most
+
+-- the literal that is asked for, seen from the answer
+abbrev asked : tie.After-stands Inv-loop μ-loop → tie.After-edge-literal Inv-loop μ-loop
+asked c = c .before .before .before .before .before
 
 element-write-literals : tie.Need-element-write-literals Inv-loop μ-loop
 element-write-literals c = omega arith
@@ -65,22 +86,22 @@ loop-less c = omega arith
 
 loop-again : tie.Need-loop-again Inv-loop μ-loop
 loop-again c =
-    let at = c .before .before .before .before .before in
+    let at = head (asked (c .before)) in
     let start = at .before .before in
     let step = at .loop .step in
-    let inside : step < start .args .t2 .count = omega arith in
+    let inside = tested (asked (c .before)) .loop-test .taken in
     let args = start .args in
     let literals = at .loop .literals in
-    let one = c .before .before .edge-literal in
+    let one = asked (c .before) .edge-literal in
     let stands = sym (c .before .stands .ensures) in (
       omega arith,
       ⊎-elim
           (λ w.
           rw (w .1)
-          (writing-more (args .edges) (args .t2) (args .index) (args .later-index) (start .pre) step inside literals (one .result) (one .ensures) (at .loop .inv .1) (stands ∙ not-true _ (w .0 .taken))))
+          (writing-more (args .t1) (args .t2) (args .index) (args .later-index) (start .pre) step inside literals (one .result) (one .ensures) (at .loop .inv .1) (stands ∙ not-true _ (w .0 .taken))))
           (λ w.
           rw (w .1)
-          (writing-again (args .edges) (args .t2) (args .index) (args .later-index) (start .pre) step inside literals (one .result) (one .ensures) (at .loop .inv .1) (stands ∙ not-false _ (w .0 .left))))
+          (writing-again (args .t1) (args .t2) (args .index) (args .later-index) (start .pre) step inside literals (one .result) (one .ensures) (at .loop .inv .1) (stands ∙ not-false _ (w .0 .left))))
           (c .if1 .came),
     )
 
@@ -108,8 +129,8 @@ returns c =
     let start = at .before .before in
     let args = start .args in
     let here : at .loop .step ≡ args .t2 .count = omega arith in
-    writing-end (args .edges) (args .t2) (args .index) (args .later-index) (args .value) (args .later-value) (at .loop .literals) (start .pre)
-    (subst (λ n. Writing (args .edges) (args .t2) (args .index) (args .later-index) n (at .loop .literals)) here (at .loop .inv .1))
+    writing-end (args .t1) (args .t2) (args .index) (args .later-index) (args .value) (args .later-value) (at .loop .literals) (start .pre)
+    (subst (λ n. Writing (args .t1) (args .t2) (args .index) (args .later-index) n (at .loop .literals)) here (at .loop .inv .1))
 
 pub literals-of-spec : {M : Type 1} → statement M
 literals-of-spec =
@@ -121,6 +142,9 @@ literals-of-spec =
     loop-holds
     element-copy-out-k
     cast-k
+    element-copy-out-edge-literal
+    element-copy-out-edge-literal-2
+    cast-edge-literal
     edge-literal-requires
     stands-requires
     element-write-literals

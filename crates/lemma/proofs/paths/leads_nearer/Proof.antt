@@ -1,4 +1,4 @@
--- `lemma::paths::leads_nearer` meets its contract: it is `nearerBy` as that is written, and the other end of an edge is an array term.
+-- `lemma::paths::leads_nearer` meets its contract: it is `nearerOver` as that is written, and the other end of an edge is an array term.
 -- Assumes nothing.
 use Prim.Native.Nat.{ℕ, _+_, _<_}
 use mathlib.Core.Path.{sym, ap, _∙_}
@@ -6,7 +6,7 @@ use native.Mathlib.Omega.{arith}
 use borrow.Author.Needs.{needs}
 use lib.Dec.{eqb}
 use Rattle.lemma.specs.Steps.{hopAt}
-use Rattle.lemma.proofs.Stepping.{other-end-in}
+use Rattle.lemma.proofs.Stepping.{far-end-in}
 use Rattle.lemma.proofs.paths.leads_nearer.Statement.{statement}
 use Rattle.lemma.proofs.paths.leads_nearer.Tie as tie
 
@@ -21,7 +21,7 @@ other-end-requires c κs = search needs
 other-in : (c : tie.After-other-end) → c .other-end .result < 48
 other-in c =
     let start = c .before .before .before in
-    rw (c .other-end .ensures) (other-end-in (start .args .edges) 48 (start .args .a) (start .args .k) (start .pre .0) (start .pre .1) (start .pre .3))
+    rw (c .other-end .ensures) (far-end-in (start .args .left) (start .args .right) 48 (start .args .a) (start .pre .0) (start .pre .1) (start .pre .2))
 
 mul-one-less : tie.Need-mul-one-less
 mul-one-less c = omega (arith, other-in c)
