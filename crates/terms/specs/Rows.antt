@@ -3,6 +3,7 @@
 use Prim.Native.Nat.{ℕ, _<_, _≤_}
 use mathlib.Core.Path.{_≡_}
 use mathlib.Core.Bool.{true, false, cond}
+use mathlib.Core.List.{List}
 use lib.Dec.{eqb}
 use lib.ListN.{getD}
 use Rattle.paper.specs.Terms.{Term, assigned}
@@ -17,22 +18,25 @@ use Rattle.terms.specs.Table.{countOf, termAt, queryOf}
 use Rattle.terms.specs.Valid.{Valid}
 use Rattle.terms.specs.Graph.{sourcesIn, opened}
 
-abbrev pub wantedSource : Guess → (origin index value : ℕ) → SourceRow
-wantedSource g origin index value =
-    record { wanted = true; origin = origin; index = index; value = value; «index_value» = getD (g .values) index 0; assigned = getD (g .values) value 0 }
+abbrev pub wantedSource : (values : List ℕ) (origin index value : ℕ) → SourceRow
+wantedSource values origin index value =
+    record { wanted = true; origin = origin; index = index; value = value; «index_value» = getD values index 0; assigned = getD values value 0 }
 
 abbrev pub noSource : SourceRow
 noSource = record { wanted = false; origin = 0; index = 0; value = 0; «index_value» = 0; assigned = 0 }
 
--- the source that a term gives, with its index value and its value
+-- the source that a term gives, with its index value and its value, by the assigned values
+abbrev pub sourceBy : (values : List ℕ) → Term → SourceRow
+sourceBy values (Term.freeBase own) = noSource
+sourceBy values (Term.freeBoolean own) = noSource
+sourceBy values (Term.variable own) = noSource
+sourceBy values (Term.write own beneath index value) = wantedSource values own index value
+sourceBy values (Term.conditional own chooser ifTrue ifFalse) = noSource
+sourceBy values (Term.read own from index) = wantedSource values from index own
+sourceBy values (Term.equality own left right leftWitness rightWitness) = noSource
+
 abbrev pub sourceRow : Guess → Term → SourceRow
-sourceRow g (Term.freeBase own) = noSource
-sourceRow g (Term.freeBoolean own) = noSource
-sourceRow g (Term.variable own) = noSource
-sourceRow g (Term.write own beneath index value) = wantedSource g own index value
-sourceRow g (Term.conditional own chooser ifTrue ifFalse) = noSource
-sourceRow g (Term.read own from index) = wantedSource g from index own
-sourceRow g (Term.equality own left right leftWitness rightWitness) = noSource
+sourceRow g term = sourceBy (g .values) term
 
 abbrev pub wantedEdge : (left right guard number closed : ℕ) → EdgeRow
 wantedEdge left right guard number closed = record { wanted = true; left = left; right = right; guard = guard; number = number; closed = closed }
@@ -41,8 +45,8 @@ abbrev pub noEdge : EdgeRow
 noEdge = record { wanted = false; left = 0; right = 0; guard = 0; number = 0; closed = 0 }
 
 -- a write's edge is closed to the index value that it writes at
-abbrev pub writeEdge : Guess → (own beneath index : ℕ) → EdgeRow
-writeEdge g own beneath index = wantedEdge own beneath 0 index (getD (g .values) index 0)
+abbrev pub writeEdge : (values : List ℕ) (own beneath index : ℕ) → EdgeRow
+writeEdge values own beneath index = wantedEdge own beneath 0 index (getD values index 0)
 
 -- of a conditional's two guarded edges the one that the chooser's truth opens
 abbrev pub branchEdge : (truth own chooser ifTrue ifFalse : ℕ) → EdgeRow
@@ -51,15 +55,18 @@ branchEdge truth own chooser ifTrue ifFalse = cond (eqb 1 truth) (wantedEdge own
 abbrev pub equalityEdge : (truth own left right : ℕ) → EdgeRow
 equalityEdge truth own left right = cond (eqb 1 truth) (wantedEdge left right 1 own 0) noEdge
 
--- the edge of a term that the guess can open
+-- the edge of a term that the guess can open, by the assigned values and truths
+abbrev pub edgeBy : (values truths : List ℕ) → Term → EdgeRow
+edgeBy values truths (Term.freeBase own) = noEdge
+edgeBy values truths (Term.freeBoolean own) = noEdge
+edgeBy values truths (Term.variable own) = noEdge
+edgeBy values truths (Term.write own beneath index value) = writeEdge values own beneath index
+edgeBy values truths (Term.conditional own chooser ifTrue ifFalse) = branchEdge (getD truths chooser 0) own chooser ifTrue ifFalse
+edgeBy values truths (Term.read own from index) = noEdge
+edgeBy values truths (Term.equality own left right leftWitness rightWitness) = equalityEdge (getD truths own 0) own left right
+
 abbrev pub edgeRow : Guess → Term → EdgeRow
-edgeRow g (Term.freeBase own) = noEdge
-edgeRow g (Term.freeBoolean own) = noEdge
-edgeRow g (Term.variable own) = noEdge
-edgeRow g (Term.write own beneath index value) = writeEdge g own beneath index
-edgeRow g (Term.conditional own chooser ifTrue ifFalse) = branchEdge (getD (g .truths) chooser 0) own chooser ifTrue ifFalse
-edgeRow g (Term.read own from index) = noEdge
-edgeRow g (Term.equality own left right leftWitness rightWitness) = equalityEdge (getD (g .truths) own 0) own left right
+edgeRow g term = edgeBy (g .values) (g .truths) term
 
 -- what a source or an edge names is given
 abbrev pub Inside : (bases booleans arrays : ℕ) → Term → Type 0

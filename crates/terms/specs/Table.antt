@@ -59,22 +59,29 @@ rowOf (Equality p) = equalityRow p
 abbrev pub fullIn : (bases booleans arrays : ℕ) (isBase isBoolean : Bool) → Bool
 fullIn bases booleans arrays isBase isBoolean = cond isBase (leb 256 bases) (cond isBoolean (leb 64 booleans) (leb 48 arrays))
 
--- 8 and 9, of an equality's row
-abbrev pub witnessFault : Terms → Guess → Row → ℕ
-witnessFault t g row =
+-- 8 and 9, of an equality's row, by the arrays that are read
+abbrev pub witnessFaultBy : (from index values : List ℕ) → Row → ℕ
+witnessFaultBy from index values row =
     cond
-    (eqb (getD (t .from) (row .third) 0) (row .first) && eqb (getD (t .from) (row .fourth) 0) (row .second)
-    && eqb (getD (t .index) (row .third) 0) (getD (t .index) (row .fourth) 0))
-    (cond (eqb (row .truth) 0) (cond (eqb (getD (g .values) (row .third) 0) (getD (g .values) (row .fourth) 0)) 9 0) 0)
+    (eqb (getD from (row .third) 0) (row .first) && eqb (getD from (row .fourth) 0) (row .second)
+    && eqb (getD index (row .third) 0) (getD index (row .fourth) 0))
+    (cond (eqb (row .truth) 0) (cond (eqb (getD values (row .third) 0) (getD values (row .fourth) 0)) 9 0) 0)
     8
 
--- the first fault of a field against the tables, by its number
-abbrev pub faultIn : Terms → Guess → Field → Row → ℕ
-faultIn t g field row =
-    cond (fullIn (t .bases) (t .booleans) (t .arrays) (row .base) (row .boolean)) 5
-    (cond (namesUngiven (countIn (t .bases) (t .booleans) (t .arrays)) (kindOfField field) (numbersOf field)) 6
+abbrev pub witnessFault : Terms → Guess → Row → ℕ
+witnessFault t g row = witnessFaultBy (t .from) (t .index) (g .values) row
+
+-- the first fault of a field, as its number, by the arrays that are read and the counts
+abbrev pub faultBy : (from index values : List ℕ) (bases booleans arrays : ℕ) → Field → Row → ℕ
+faultBy from index values bases booleans arrays field row =
+    cond (fullIn bases booleans arrays (row .base) (row .boolean)) 5
+    (cond (namesUngiven (countIn bases booleans arrays) (kindOfField field) (numbersOf field)) 6
     (cond (ltb 1 (row .truth)) 7
-    (cond (eqb (row .tag) 7) (witnessFault t g row) 0)))
+    (cond (eqb (row .tag) 7) (witnessFaultBy from index values row) 0)))
+
+-- and against the tables
+abbrev pub faultIn : Terms → Guess → Field → Row → ℕ
+faultIn t g field row = faultBy (t .from) (t .index) (g .values) (t .bases) (t .booleans) (t .arrays) field row
 
 -- a number put in its place, where it is wanted
 abbrev pub putIf : Bool → List ℕ → (at x : ℕ) → List ℕ

@@ -1,8 +1,9 @@
 // The tables of the sources and of the edges that loaded terms give, each filled in one pass over the terms. 01, Sources, edges, reach.
 ghost use mathlib.Core.Path.{_≡_};
-ghost use Prim.Native.Nat.{_<_};
-ghost use Rattle.terms.specs.Table.{countOf, termAt};
-ghost use Rattle.terms.specs.Rows.{wantedSource, noSource, sourceRow, wantedEdge, noEdge, writeEdge, branchEdge, equalityEdge, edgeRow, Loadable, SourcesFrom, EdgesFrom};
+ghost use Prim.Native.Nat.{ℕ, _<_};
+ghost use Rattle.paper.specs.Fields.{kindOf};
+ghost use Rattle.terms.specs.Table.{termFrom};
+ghost use Rattle.terms.specs.Rows.{wantedSource, noSource, sourceBy, wantedEdge, noEdge, writeEdge, branchEdge, equalityEdge, edgeBy, Loadable, SourcesFrom, EdgesFrom};
 use crate::EQUALITY;
 use crate::Edges;
 use crate::Guess;
@@ -43,8 +44,8 @@ pub struct EdgeRow {
     pub closed: u64,
 }
 
-fn wanted_source(guess: Guess, origin: u8, index: u8, value: u8) -> SourceRow
-    ensures { λ r. ⌜ r ≡ wantedSource guess origin index value ⌝ }
+fn wanted_source(values: &[u64; 256], origin: u8, index: u8, value: u8) -> SourceRow
+    ensures { λ r. ⌜ r ≡ wantedSource (now (values .entry)) origin index value ⌝ }
 {
     let at = index as usize;
     let of = value as usize;
@@ -53,8 +54,8 @@ fn wanted_source(guess: Guess, origin: u8, index: u8, value: u8) -> SourceRow
         origin,
         index,
         value,
-        index_value: guess.values[at],
-        assigned: guess.values[of],
+        index_value: values[at],
+        assigned: values[of],
     }
 }
 
@@ -72,18 +73,14 @@ fn no_source() -> SourceRow
 }
 
 // "A read's origin is the array read, its value the read's own base term. A write's origin is the write, with its index and value terms."
-fn source_row(terms: Terms, guess: Guess, k: usize) -> SourceRow
-    requires { ⌜ k < 368 ⌝ }
-    ensures { λ r. ⌜ r ≡ sourceRow guess (termAt terms k) ⌝ }
+fn source_row(values: &[u64; 256], tag: u8, own: u8, first: u8, second: u8, third: u8) -> SourceRow
+    ensures { λ r. ⌜ ((fourth : ℕ) → r ≡ sourceBy (now (values .entry)) (termFrom (kindOf tag) own first second third fourth)) ⌝ }
 {
-    let tag = terms.tag[k];
-    let own = terms.own[k];
-    let index = terms.second[k];
     if tag == WRITE {
-        return wanted_source(guess, own, index, terms.third[k]);
+        return wanted_source(values, own, second, third);
     }
     if tag == READ {
-        return wanted_source(guess, terms.first[k], index, own);
+        return wanted_source(values, first, second, own);
     }
     no_source()
 }
@@ -103,7 +100,12 @@ pub fn sources(terms: Terms, guess: Guess) -> Sources
     };
     let end = terms.bases + terms.booleans + terms.arrays;
     for k in 0..end {
-        let row = source_row(terms, guess, k);
+        let tag = terms.tag[k];
+        let own = terms.own[k];
+        let first = terms.first[k];
+        let second = terms.second[k];
+        let third = terms.third[k];
+        let row = source_row(&guess.values, tag, own, first, second, third);
         if row.wanted {
             let count = table.count;
             table.origin[count] = row.origin;
@@ -144,11 +146,11 @@ fn no_edge() -> EdgeRow
 }
 
 // "open to index value v if the write index has another assigned value"
-fn write_edge(guess: Guess, own: u8, beneath: u8, index: u8) -> EdgeRow
-    ensures { λ r. ⌜ r ≡ writeEdge guess own beneath index ⌝ }
+fn write_edge(values: &[u64; 256], own: u8, beneath: u8, index: u8) -> EdgeRow
+    ensures { λ r. ⌜ r ≡ writeEdge (now (values .entry)) own beneath index ⌝ }
 {
     let at = index as usize;
-    wanted_edge(own, beneath, DIFFER, index, guess.values[at])
+    wanted_edge(own, beneath, DIFFER, index, values[at])
 }
 
 // "the branch that the assigned truth chooses"
@@ -172,24 +174,28 @@ fn equality_edge(truth: u8, own: u8, left: u8, right: u8) -> EdgeRow
 }
 
 // The one edge of a term that the guess can open, if there is one.
-fn edge_row(terms: Terms, guess: Guess, k: usize) -> EdgeRow
-    requires { ⌜ Loadable terms guess × (k < countOf terms) ⌝ }
-    ensures { λ r. ⌜ r ≡ edgeRow guess (termAt terms k) ⌝ }
+fn edge_row<'a>(
+    values: &'a [u64; 256],
+    truths: &'a [u8; 64],
+    tag: u8,
+    own: u8,
+    first: u8,
+    second: u8,
+    third: u8,
+) -> EdgeRow
+    requires { ⌜ (tag ≡ 5 → first < 64) × (tag ≡ 7 → own < 64) ⌝ }
+    ensures { λ r. ⌜ ((fourth : ℕ) → r ≡ edgeBy (now (values .entry)) (now (truths .entry)) (termFrom (kindOf tag) own first second third fourth)) ⌝ }
 {
-    let tag = terms.tag[k];
-    let own = terms.own[k];
-    let first = terms.first[k];
-    let second = terms.second[k];
     if tag == WRITE {
-        return write_edge(guess, own, first, second);
+        return write_edge(values, own, first, second);
     }
     if tag == CONDITIONAL {
         let chooser = first as usize;
-        return branch_edge(guess.truths[chooser], own, first, second, terms.third[k]);
+        return branch_edge(truths[chooser], own, first, second, third);
     }
     if tag == EQUALITY {
         let at = own as usize;
-        return equality_edge(guess.truths[at], own, first, second);
+        return equality_edge(truths[at], own, first, second);
     }
     no_edge()
 }
@@ -209,7 +215,12 @@ pub fn edges(terms: Terms, guess: Guess) -> Edges
     };
     let end = terms.bases + terms.booleans + terms.arrays;
     for k in 0..end {
-        let row = edge_row(terms, guess, k);
+        let tag = terms.tag[k];
+        let own = terms.own[k];
+        let first = terms.first[k];
+        let second = terms.second[k];
+        let third = terms.third[k];
+        let row = edge_row(&guess.values, &guess.truths, tag, own, first, second, third);
         if row.wanted {
             let count = table.count;
             table.left[count] = row.left;

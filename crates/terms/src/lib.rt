@@ -9,7 +9,7 @@ ghost use Rattle.paper.specs.Load.{namesUngiven};
 ghost use Rattle.paper.specs.Load as Load;
 ghost use Rattle.query.specs.Standing.{kindOfField, numbersOf};
 ghost use Rattle.terms.specs.Valid.{Valid};
-ghost use Rattle.terms.specs.Table.{countIn, anyPast, plainRow, baseRow, equalityRow, freeBooleanRow, rowOf, fullIn, witnessFault, faultIn, putIf, noTerms, noGuess, loadedOf};
+ghost use Rattle.terms.specs.Table.{countIn, anyPast, plainRow, baseRow, equalityRow, freeBooleanRow, rowOf, fullIn, witnessFaultBy, faultBy, putIf, noTerms, noGuess, loadedOf};
 
 pub mod graph;
 
@@ -296,33 +296,42 @@ fn ungiven(field: Field, bases: usize, booleans: usize, arrays: usize) -> bool
 }
 
 // 8: a witness isn't a read, or reads another array, or the two index numbers differ. 9: their assigned values are equal where the truth is 0.
-fn witness_fault(terms: Terms, guess: Guess, row: Row) -> u8
-    ensures { λ r. ⌜ r ≡ witnessFault terms guess row ⌝ }
+fn witness_fault<'a>(
+    from: &'a [u8; 256],
+    index: &'a [u8; 256],
+    values: &'a [u64; 256],
+    row: Row,
+) -> u8
+    ensures { λ r. ⌜ r ≡ witnessFaultBy (now (from .entry)) (now (index .entry)) (now (values .entry)) row ⌝ }
 {
     let left = row.third as usize;
     let right = row.fourth as usize;
-    let reads = both(
-        same(terms.from[left], row.first),
-        same(terms.from[right], row.second),
-    );
-    let good = both(reads, same(terms.index[left], terms.index[right]));
-    let equal = same_value(guess.values[left], guess.values[right]);
+    let reads = both(same(from[left], row.first), same(from[right], row.second));
+    let good = both(reads, same(index[left], index[right]));
+    let equal = same_value(values[left], values[right]);
     choose(good, choose(same(row.truth, 0), choose(equal, 9, 0), 0), 8)
 }
 
 // The first fault of a field against what was given before it, by its number; 0 where there is none.
-fn fault(terms: Terms, guess: Guess, field: Field, row: Row) -> u8
-    ensures { λ r. ⌜ r ≡ faultIn terms guess field row ⌝ }
+fn fault<'a>(
+    from: &'a [u8; 256],
+    index: &'a [u8; 256],
+    values: &'a [u64; 256],
+    bases: usize,
+    booleans: usize,
+    arrays: usize,
+    field: Field,
+    row: Row,
+) -> u8
+    ensures { λ r. ⌜ r ≡ faultBy (now (from .entry)) (now (index .entry)) (now (values .entry)) bases booleans arrays field row ⌝ }
 {
-    let too_many = full(
-        row.base,
-        row.boolean,
-        terms.bases,
-        terms.booleans,
-        terms.arrays,
+    let too_many = full(row.base, row.boolean, bases, booleans, arrays);
+    let unknown = ungiven(field, bases, booleans, arrays);
+    let witness = choose(
+        same(row.tag, EQUALITY),
+        witness_fault(from, index, values, row),
+        0,
     );
-    let unknown = ungiven(field, terms.bases, terms.booleans, terms.arrays);
-    let witness = choose(same(row.tag, EQUALITY), witness_fault(terms, guess, row), 0);
     choose(
         too_many,
         5,
@@ -442,7 +451,19 @@ pub fn load(query: &[u8]) -> Loaded
             }
             Decoded::Next(field, next) => {
                 let row = to_row(field);
-                let found = fault(terms, guess, field, row);
+                let bases = terms.bases;
+                let booleans = terms.booleans;
+                let arrays = terms.arrays;
+                let found = fault(
+                    &terms.from,
+                    &terms.index,
+                    &guess.values,
+                    bases,
+                    booleans,
+                    arrays,
+                    field,
+                    row,
+                );
                 if found != 0 {
                     return Loaded {
                         refusal: found,
@@ -451,9 +472,6 @@ pub fn load(query: &[u8]) -> Loaded
                         guess,
                     };
                 }
-                let bases = terms.bases;
-                let booleans = terms.booleans;
-                let arrays = terms.arrays;
                 let count = bases + booleans + arrays;
                 terms.tag[count] = row.tag;
                 terms.own[count] = own_number(row, bases, booleans, arrays);

@@ -1,15 +1,18 @@
 -- `terms::load` meets its contract: at the head of its loop the tables are valid, and what is left of the bytes, loaded after the query that
 -- they hold, is what the whole comes to. Assumes nothing.
-use mathlib.Core.Path.{_≡_, refl, sym, ap, _∙_, subst}
-use Prim.Native.Nat.{ℕ, _+_, _-_, _<_, _≤_}
+use mathlib.Core.Path.{_≡_, sym, ap, _∙_, subst}
+use mathlib.Core.Bool.{true}
+use mathlib.Core.List.{List}
+use Prim.Native.Nat.{ℕ, _-_, _<_}
 use native.Mathlib.Omega.{arith}
 use borrow.Author.Needs.{needs}
 use denote.Ref.{now}
 use lib.ListN.{length}
 use Rattle.query.specs.Standing.{standingOf}
-use Rattle.terms.specs.Table.{queryOf, noTerms, noGuess}
+use Rattle.terms.specs.Table.{countOf, queryOf, noTerms, noGuess}
 use Rattle.terms.proofs.Bools.{one-most}
 use Rattle.terms.specs.Valid.{Valid}
+use Rattle.terms.specs.declared.Row.{Row}
 use Rattle.terms.proofs.Tables.{none-valid, none-query}
 use Rattle.terms.proofs.Steps.{Left, left-first, too-long, left-end, left-broken}
 use Rattle.terms.proofs.Turn.{Head, Read, refuses, has-room, turns, put-together}
@@ -82,180 +85,110 @@ to-row-requires c κs = search needs
 fault-requires : tie.Need-fault-requires Inv-loop μ-loop
 fault-requires c κs = search needs
 
+-- the loop's head, the field that was read there and its row, seen from behind the search for its fault
+abbrev rowed : tie.After-fault Inv-loop μ-loop → tie.After-to-row Inv-loop μ-loop
+rowed r = r .before .before .before .before .before .before
+
+abbrev fielded : tie.After-fault Inv-loop μ-loop → tie.After-field Inv-loop μ-loop
+fielded r = rowed r .before .before
+
+abbrev head : tie.After-fault Inv-loop μ-loop → tie.At-loop Inv-loop μ-loop
+head r = fielded r .before .before .before
+
+abbrev bytes : tie.At-loop Inv-loop μ-loop → List ℕ
+bytes l = now (l .before .before .before .before .before .args .query)
+
+abbrev row : tie.After-fault Inv-loop μ-loop → Row
+row r = rowed r .to-row .result
+
+known : (r : tie.After-fault Inv-loop μ-loop)
+    → Read (bytes (head r)) (head r .loop .terms) (head r .loop .guess) (head r .loop .at) (fielded r .field .given .0 .0) (fielded r .field .given .0 .1 .0) (row r) (r .fault .result)
+known r =
+    record {
+      head = head r .loop .inv;
+      stands = sym (fielded r .before .before .decode .ensures) ∙ ap standingOf (fielded r .field .given .1);
+      row-is = rowed r .to-row .ensures;
+      found-is = r .fault .ensures;
+    }
+
+-- a field without a fault has room
+fits : (e : tie.Else2 Inv-loop μ-loop)
+    → (countOf (head (e .before) .loop .terms) < 368) × (row (e .before) .base ≡ true → head (e .before) .loop .terms .bases < 256) × (row (e .before) .boolean ≡ true → head (e .before) .loop .terms .booleans < 64)
+fits e = has-room (known (e .before)) (e .if2 .left)
+
 returns-4 : tie.Need-returns-4 Inv-loop μ-loop
-returns-4 c = let known : Read (now (c .before .before .before .before .before .before .before .before .before .before .before .before .args .query)) (c .before .before .before .before .before .before .before .loop .terms) (c .before .before .before .before .before .before .before .loop .guess) (c .before .before .before .before .before .before .before .loop .at) (c .before .before .before .before .field .given .0 .0) (c .before .before .before .before .field .given .0 .1 .0) (c .before .before .to-row .result) (c .before .fault .result) = record {
-  head = c .before .before .before .before .before .before .before .loop .inv;
-  stands = sym (c .before .before .before .before .before .before .decode .ensures) ∙ ap standingOf (c .before .before .before .before .field .given .1);
-  row-is = c .before .before .to-row .ensures;
-  found-is = c .before .fault .ensures;
-} in
-    (refuses known (c .if2 .taken) (queryOf (c .before .before .before .before .before .before .before .loop .terms) (c .before .before .before .before .before .before .before .loop .guess)), known .head .0)
+returns-4 c =
+    let loop = head (c .before) .loop in
+    (refuses (known (c .before)) (c .if2 .taken) (queryOf (loop .terms) (loop .guess)), loop .inv .0)
 
 add-count : tie.Need-add-count Inv-loop μ-loop
-add-count c = let known : Read (now (c .before .before .before .before .before .before .before .before .before .before .before .before .args .query)) (c .before .before .before .before .before .before .before .loop .terms) (c .before .before .before .before .before .before .before .loop .guess) (c .before .before .before .before .before .before .before .loop .at) (c .before .before .before .before .field .given .0 .0) (c .before .before .before .before .field .given .0 .1 .0) (c .before .before .to-row .result) (c .before .fault .result) = record {
-  head = c .before .before .before .before .before .before .before .loop .inv;
-  stands = sym (c .before .before .before .before .before .before .decode .ensures) ∙ ap standingOf (c .before .before .before .before .field .given .1);
-  row-is = c .before .before .to-row .ensures;
-  found-is = c .before .fault .ensures;
-} in
-    omega (arith, has-room known (c .if2 .left) .0)
+add-count c = omega (arith, fits c .0)
 
 add-count-2 : tie.Need-add-count-2 Inv-loop μ-loop
-add-count-2 c = let known : Read (now (c .before .before .before .before .before .before .before .before .before .before .before .before .args .query)) (c .before .before .before .before .before .before .before .loop .terms) (c .before .before .before .before .before .before .before .loop .guess) (c .before .before .before .before .before .before .before .loop .at) (c .before .before .before .before .field .given .0 .0) (c .before .before .before .before .field .given .0 .1 .0) (c .before .before .to-row .result) (c .before .fault .result) = record {
-  head = c .before .before .before .before .before .before .before .loop .inv;
-  stands = sym (c .before .before .before .before .before .before .decode .ensures) ∙ ap standingOf (c .before .before .before .before .field .given .1);
-  row-is = c .before .before .to-row .ensures;
-  found-is = c .before .fault .ensures;
-} in
-    omega (arith, has-room known (c .if2 .left) .0)
+add-count-2 c = omega (arith, fits c .0)
 
 element-write-terms : tie.Need-element-write-terms Inv-loop μ-loop
-element-write-terms c = let known : Read (now (c .before .before .before .before .before .before .before .before .before .before .before .before .args .query)) (c .before .before .before .before .before .before .before .loop .terms) (c .before .before .before .before .before .before .before .loop .guess) (c .before .before .before .before .before .before .before .loop .at) (c .before .before .before .before .field .given .0 .0) (c .before .before .before .before .field .given .0 .1 .0) (c .before .before .to-row .result) (c .before .fault .result) = record {
-  head = c .before .before .before .before .before .before .before .loop .inv;
-  stands = sym (c .before .before .before .before .before .before .decode .ensures) ∙ ap standingOf (c .before .before .before .before .field .given .1);
-  row-is = c .before .before .to-row .ensures;
-  found-is = c .before .fault .ensures;
-} in
-    has-room known (c .if2 .left) .0
+element-write-terms c = fits c .0
 
 own-number-requires : tie.Need-own-number-requires Inv-loop μ-loop
 own-number-requires c κs = search needs
 
 element-write-terms-2 : tie.Need-element-write-terms-2 Inv-loop μ-loop
-element-write-terms-2 c = let known : Read (now (c .before .before .before .before .before .before .before .before .before .before .before .before .before .args .query)) (c .before .before .before .before .before .before .before .before .loop .terms) (c .before .before .before .before .before .before .before .before .loop .guess) (c .before .before .before .before .before .before .before .before .loop .at) (c .before .before .before .before .before .field .given .0 .0) (c .before .before .before .before .before .field .given .0 .1 .0) (c .before .before .before .to-row .result) (c .before .before .fault .result) = record {
-  head = c .before .before .before .before .before .before .before .before .loop .inv;
-  stands = sym (c .before .before .before .before .before .before .before .decode .ensures) ∙ ap standingOf (c .before .before .before .before .before .field .given .1);
-  row-is = c .before .before .before .to-row .ensures;
-  found-is = c .before .before .fault .ensures;
-} in
-    has-room known (c .before .if2 .left) .0
+element-write-terms-2 c = fits (c .before) .0
 
 element-write-terms-3 : tie.Need-element-write-terms-3 Inv-loop μ-loop
-element-write-terms-3 c = let known : Read (now (c .before .before .before .before .before .before .before .before .before .before .before .before .before .args .query)) (c .before .before .before .before .before .before .before .before .loop .terms) (c .before .before .before .before .before .before .before .before .loop .guess) (c .before .before .before .before .before .before .before .before .loop .at) (c .before .before .before .before .before .field .given .0 .0) (c .before .before .before .before .before .field .given .0 .1 .0) (c .before .before .before .to-row .result) (c .before .before .fault .result) = record {
-  head = c .before .before .before .before .before .before .before .before .loop .inv;
-  stands = sym (c .before .before .before .before .before .before .before .decode .ensures) ∙ ap standingOf (c .before .before .before .before .before .field .given .1);
-  row-is = c .before .before .before .to-row .ensures;
-  found-is = c .before .before .fault .ensures;
-} in
-    has-room known (c .before .if2 .left) .0
+element-write-terms-3 c = fits (c .before) .0
 
 element-write-terms-4 : tie.Need-element-write-terms-4 Inv-loop μ-loop
-element-write-terms-4 c = let known : Read (now (c .before .before .before .before .before .before .before .before .before .before .before .before .before .args .query)) (c .before .before .before .before .before .before .before .before .loop .terms) (c .before .before .before .before .before .before .before .before .loop .guess) (c .before .before .before .before .before .before .before .before .loop .at) (c .before .before .before .before .before .field .given .0 .0) (c .before .before .before .before .before .field .given .0 .1 .0) (c .before .before .before .to-row .result) (c .before .before .fault .result) = record {
-  head = c .before .before .before .before .before .before .before .before .loop .inv;
-  stands = sym (c .before .before .before .before .before .before .before .decode .ensures) ∙ ap standingOf (c .before .before .before .before .before .field .given .1);
-  row-is = c .before .before .before .to-row .ensures;
-  found-is = c .before .before .fault .ensures;
-} in
-    has-room known (c .before .if2 .left) .0
+element-write-terms-4 c = fits (c .before) .0
 
 element-write-terms-5 : tie.Need-element-write-terms-5 Inv-loop μ-loop
-element-write-terms-5 c = let known : Read (now (c .before .before .before .before .before .before .before .before .before .before .before .before .before .args .query)) (c .before .before .before .before .before .before .before .before .loop .terms) (c .before .before .before .before .before .before .before .before .loop .guess) (c .before .before .before .before .before .before .before .before .loop .at) (c .before .before .before .before .before .field .given .0 .0) (c .before .before .before .before .before .field .given .0 .1 .0) (c .before .before .before .to-row .result) (c .before .before .fault .result) = record {
-  head = c .before .before .before .before .before .before .before .before .loop .inv;
-  stands = sym (c .before .before .before .before .before .before .before .decode .ensures) ∙ ap standingOf (c .before .before .before .before .before .field .given .1);
-  row-is = c .before .before .before .to-row .ensures;
-  found-is = c .before .before .fault .ensures;
-} in
-    has-room known (c .before .if2 .left) .0
+element-write-terms-5 c = fits (c .before) .0
 
 element-write-terms-6 : tie.Need-element-write-terms-6 Inv-loop μ-loop
-element-write-terms-6 c = let known : Read (now (c .before .before .before .before .before .before .before .before .before .before .before .before .before .args .query)) (c .before .before .before .before .before .before .before .before .loop .terms) (c .before .before .before .before .before .before .before .before .loop .guess) (c .before .before .before .before .before .before .before .before .loop .at) (c .before .before .before .before .before .field .given .0 .0) (c .before .before .before .before .before .field .given .0 .1 .0) (c .before .before .before .to-row .result) (c .before .before .fault .result) = record {
-  head = c .before .before .before .before .before .before .before .before .loop .inv;
-  stands = sym (c .before .before .before .before .before .before .before .decode .ensures) ∙ ap standingOf (c .before .before .before .before .before .field .given .1);
-  row-is = c .before .before .before .to-row .ensures;
-  found-is = c .before .before .fault .ensures;
-} in
-    has-room known (c .before .if2 .left) .0
+element-write-terms-6 c = fits (c .before) .0
 
 keep-byte-requires : tie.Need-keep-byte-requires Inv-loop μ-loop
-keep-byte-requires c κs = let known : Read (now (c .before .before .before .before .before .before .before .before .before .before .before .before .before .before .args .query)) (c .before .before .before .before .before .before .before .before .before .loop .terms) (c .before .before .before .before .before .before .before .before .before .loop .guess) (c .before .before .before .before .before .before .before .before .before .loop .at) (c .before .before .before .before .before .before .field .given .0 .0) (c .before .before .before .before .before .before .field .given .0 .1 .0) (c .before .before .before .before .to-row .result) (c .before .before .before .fault .result) = record {
-  head = c .before .before .before .before .before .before .before .before .before .loop .inv;
-  stands = sym (c .before .before .before .before .before .before .before .before .decode .ensures) ∙ ap standingOf (c .before .before .before .before .before .before .field .given .1);
-  row-is = c .before .before .before .before .to-row .ensures;
-  found-is = c .before .before .before .fault .ensures;
-} in
-    has-room known (c .before .before .if2 .left) .1
+keep-byte-requires c κs = fits (c .before .before) .1
 
 keep-byte-requires-2 : tie.Need-keep-byte-requires-2 Inv-loop μ-loop
-keep-byte-requires-2 c κs = let known : Read (now (c .before .before .before .before .before .before .before .before .before .before .before .before .before .before .before .before .args .query)) (c .before .before .before .before .before .before .before .before .before .before .before .loop .terms) (c .before .before .before .before .before .before .before .before .before .before .before .loop .guess) (c .before .before .before .before .before .before .before .before .before .before .before .loop .at) (c .before .before .before .before .before .before .before .before .field .given .0 .0) (c .before .before .before .before .before .before .before .before .field .given .0 .1 .0) (c .before .before .before .before .before .before .to-row .result) (c .before .before .before .before .before .fault .result) = record {
-  head = c .before .before .before .before .before .before .before .before .before .before .before .loop .inv;
-  stands = sym (c .before .before .before .before .before .before .before .before .before .before .decode .ensures) ∙ ap standingOf (c .before .before .before .before .before .before .before .before .field .given .1);
-  row-is = c .before .before .before .before .before .before .to-row .ensures;
-  found-is = c .before .before .before .before .before .fault .ensures;
-} in
-    has-room known (c .before .before .before .before .if2 .left) .1
+keep-byte-requires-2 c κs = fits (c .before .before .before .before) .1
 
 one-if-requires : tie.Need-one-if-requires Inv-loop μ-loop
 one-if-requires c κs = search needs
 
 add-terms : tie.Need-add-terms Inv-loop μ-loop
-add-terms c = let known : Read (now (c .before .before .before .before .before .before .before .before .before .before .before .before .before .before .before .before .before .before .args .query)) (c .before .before .before .before .before .before .before .before .before .before .before .before .before .loop .terms) (c .before .before .before .before .before .before .before .before .before .before .before .before .before .loop .guess) (c .before .before .before .before .before .before .before .before .before .before .before .before .before .loop .at) (c .before .before .before .before .before .before .before .before .before .before .field .given .0 .0) (c .before .before .before .before .before .before .before .before .before .before .field .given .0 .1 .0) (c .before .before .before .before .before .before .before .before .to-row .result) (c .before .before .before .before .before .before .before .fault .result) = record {
-  head = c .before .before .before .before .before .before .before .before .before .before .before .before .before .loop .inv;
-  stands = sym (c .before .before .before .before .before .before .before .before .before .before .before .before .decode .ensures) ∙ ap standingOf (c .before .before .before .before .before .before .before .before .before .before .field .given .1);
-  row-is = c .before .before .before .before .before .before .before .before .to-row .ensures;
-  found-is = c .before .before .before .before .before .before .before .fault .ensures;
-} in
-    omega (arith, has-room known (c .before .before .before .before .before .before .if2 .left) .0, one-most (c .before .before .before .before .before .before .before .before .to-row .result .base) (c .one-if .ensures))
+add-terms c = omega (arith, fits (c .before .before .before .before .before .before) .0, one-most (row (c .before .before .before .before .before .before .before) .base) (c .one-if .ensures))
 
 one-if-requires-2 : tie.Need-one-if-requires-2 Inv-loop μ-loop
 one-if-requires-2 c κs = search needs
 
 add-terms-2 : tie.Need-add-terms-2 Inv-loop μ-loop
-add-terms-2 c = let known : Read (now (c .before .before .before .before .before .before .before .before .before .before .before .before .before .before .before .before .before .before .before .args .query)) (c .before .before .before .before .before .before .before .before .before .before .before .before .before .before .loop .terms) (c .before .before .before .before .before .before .before .before .before .before .before .before .before .before .loop .guess) (c .before .before .before .before .before .before .before .before .before .before .before .before .before .before .loop .at) (c .before .before .before .before .before .before .before .before .before .before .before .field .given .0 .0) (c .before .before .before .before .before .before .before .before .before .before .before .field .given .0 .1 .0) (c .before .before .before .before .before .before .before .before .before .to-row .result) (c .before .before .before .before .before .before .before .before .fault .result) = record {
-  head = c .before .before .before .before .before .before .before .before .before .before .before .before .before .before .loop .inv;
-  stands = sym (c .before .before .before .before .before .before .before .before .before .before .before .before .before .decode .ensures) ∙ ap standingOf (c .before .before .before .before .before .before .before .before .before .before .before .field .given .1);
-  row-is = c .before .before .before .before .before .before .before .before .before .to-row .ensures;
-  found-is = c .before .before .before .before .before .before .before .before .fault .ensures;
-} in
-    omega (arith, has-room known (c .before .before .before .before .before .before .before .if2 .left) .0, one-most (c .before .before .before .before .before .before .before .before .before .to-row .result .boolean) (c .one-if2 .ensures))
+add-terms-2 c = omega (arith, fits (c .before .before .before .before .before .before .before) .0, one-most (row (c .before .before .before .before .before .before .before .before) .boolean) (c .one-if2 .ensures))
 
 one-if-requires-3 : tie.Need-one-if-requires-3 Inv-loop μ-loop
 one-if-requires-3 c κs = search needs
 
 add-terms-3 : tie.Need-add-terms-3 Inv-loop μ-loop
-add-terms-3 c = let known : Read (now (c .before .before .before .before .before .before .before .before .before .before .before .before .before .before .before .before .before .before .before .before .args .query)) (c .before .before .before .before .before .before .before .before .before .before .before .before .before .before .before .loop .terms) (c .before .before .before .before .before .before .before .before .before .before .before .before .before .before .before .loop .guess) (c .before .before .before .before .before .before .before .before .before .before .before .before .before .before .before .loop .at) (c .before .before .before .before .before .before .before .before .before .before .before .before .field .given .0 .0) (c .before .before .before .before .before .before .before .before .before .before .before .before .field .given .0 .1 .0) (c .before .before .before .before .before .before .before .before .before .before .to-row .result) (c .before .before .before .before .before .before .before .before .before .fault .result) = record {
-  head = c .before .before .before .before .before .before .before .before .before .before .before .before .before .before .before .loop .inv;
-  stands = sym (c .before .before .before .before .before .before .before .before .before .before .before .before .before .before .decode .ensures) ∙ ap standingOf (c .before .before .before .before .before .before .before .before .before .before .before .before .field .given .1);
-  row-is = c .before .before .before .before .before .before .before .before .before .before .to-row .ensures;
-  found-is = c .before .before .before .before .before .before .before .before .before .fault .ensures;
-} in
-    omega (arith, has-room known (c .before .before .before .before .before .before .before .before .if2 .left) .0, one-most (c .before .before .before .before .before .before .before .before .before .before .to-row .result .array) (c .one-if3 .ensures))
+add-terms-3 c = omega (arith, fits (c .before .before .before .before .before .before .before .before) .0, one-most (row (c .before .before .before .before .before .before .before .before .before) .array) (c .one-if3 .ensures))
 
 keep-value-requires : tie.Need-keep-value-requires Inv-loop μ-loop
-keep-value-requires c κs = let known : Read (now (c .before .before .before .before .before .before .before .before .before .before .before .before .before .before .before .before .before .before .before .before .before .args .query)) (c .before .before .before .before .before .before .before .before .before .before .before .before .before .before .before .before .loop .terms) (c .before .before .before .before .before .before .before .before .before .before .before .before .before .before .before .before .loop .guess) (c .before .before .before .before .before .before .before .before .before .before .before .before .before .before .before .before .loop .at) (c .before .before .before .before .before .before .before .before .before .before .before .before .before .field .given .0 .0) (c .before .before .before .before .before .before .before .before .before .before .before .before .before .field .given .0 .1 .0) (c .before .before .before .before .before .before .before .before .before .before .before .to-row .result) (c .before .before .before .before .before .before .before .before .before .before .fault .result) = record {
-  head = c .before .before .before .before .before .before .before .before .before .before .before .before .before .before .before .before .loop .inv;
-  stands = sym (c .before .before .before .before .before .before .before .before .before .before .before .before .before .before .before .decode .ensures) ∙ ap standingOf (c .before .before .before .before .before .before .before .before .before .before .before .before .before .field .given .1);
-  row-is = c .before .before .before .before .before .before .before .before .before .before .before .to-row .ensures;
-  found-is = c .before .before .before .before .before .before .before .before .before .before .fault .ensures;
-} in
-    has-room known (c .before .before .before .before .before .before .before .before .before .if2 .left) .1
+keep-value-requires c κs = fits (c .before .before .before .before .before .before .before .before .before) .1
 
 keep-truth-requires : tie.Need-keep-truth-requires Inv-loop μ-loop
-keep-truth-requires c κs = let known : Read (now (c .before .before .before .before .before .before .before .before .before .before .before .before .before .before .before .before .before .before .before .before .before .before .before .args .query)) (c .before .before .before .before .before .before .before .before .before .before .before .before .before .before .before .before .before .before .loop .terms) (c .before .before .before .before .before .before .before .before .before .before .before .before .before .before .before .before .before .before .loop .guess) (c .before .before .before .before .before .before .before .before .before .before .before .before .before .before .before .before .before .before .loop .at) (c .before .before .before .before .before .before .before .before .before .before .before .before .before .before .before .field .given .0 .0) (c .before .before .before .before .before .before .before .before .before .before .before .before .before .before .before .field .given .0 .1 .0) (c .before .before .before .before .before .before .before .before .before .before .before .before .before .to-row .result) (c .before .before .before .before .before .before .before .before .before .before .before .before .fault .result) = record {
-  head = c .before .before .before .before .before .before .before .before .before .before .before .before .before .before .before .before .before .before .loop .inv;
-  stands = sym (c .before .before .before .before .before .before .before .before .before .before .before .before .before .before .before .before .before .decode .ensures) ∙ ap standingOf (c .before .before .before .before .before .before .before .before .before .before .before .before .before .before .before .field .given .1);
-  row-is = c .before .before .before .before .before .before .before .before .before .before .before .before .before .to-row .ensures;
-  found-is = c .before .before .before .before .before .before .before .before .before .before .before .before .fault .ensures;
-} in
-    has-room known (c .before .before .before .before .before .before .before .before .before .before .before .if2 .left) .2
+keep-truth-requires c κs = fits (c .before .before .before .before .before .before .before .before .before .before .before) .2
 
 loop-less : tie.Need-loop-less Inv-loop μ-loop
-loop-less c = let known : Read (now (c .before .before .before .before .before .before .before .before .before .before .before .before .before .before .before .before .before .before .before .before .before .before .before .before .args .query)) (c .before .before .before .before .before .before .before .before .before .before .before .before .before .before .before .before .before .before .before .loop .terms) (c .before .before .before .before .before .before .before .before .before .before .before .before .before .before .before .before .before .before .before .loop .guess) (c .before .before .before .before .before .before .before .before .before .before .before .before .before .before .before .before .before .before .before .loop .at) (c .before .before .before .before .before .before .before .before .before .before .before .before .before .before .before .before .field .given .0 .0) (c .before .before .before .before .before .before .before .before .before .before .before .before .before .before .before .before .field .given .0 .1 .0) (c .before .before .before .before .before .before .before .before .before .before .before .before .before .before .to-row .result) (c .before .before .before .before .before .before .before .before .before .before .before .before .before .fault .result) = record {
-  head = c .before .before .before .before .before .before .before .before .before .before .before .before .before .before .before .before .before .before .before .loop .inv;
-  stands = sym (c .before .before .before .before .before .before .before .before .before .before .before .before .before .before .before .before .before .before .decode .ensures) ∙ ap standingOf (c .before .before .before .before .before .before .before .before .before .before .before .before .before .before .before .before .field .given .1);
-  row-is = c .before .before .before .before .before .before .before .before .before .before .before .before .before .before .to-row .ensures;
-  found-is = c .before .before .before .before .before .before .before .before .before .before .before .before .before .fault .ensures;
-} in
-    let moved = turns known (c .before .before .before .before .before .before .before .before .before .before .before .before .if2 .left) in
-    omega (arith, moved .1, moved .2)
+loop-less c =
+    let e = c .before .before .before .before .before .before .before .before .before .before .before .before in
+    let on = turns (known (e .before)) (e .if2 .left) in
+    omega (arith, on .1, on .2)
 
 loop-again : tie.Need-loop-again Inv-loop μ-loop
-loop-again c = let known : Read (now (c .before .before .before .before .before .before .before .before .before .before .before .before .before .before .before .before .before .before .before .before .before .before .before .before .args .query)) (c .before .before .before .before .before .before .before .before .before .before .before .before .before .before .before .before .before .before .before .loop .terms) (c .before .before .before .before .before .before .before .before .before .before .before .before .before .before .before .before .before .before .before .loop .guess) (c .before .before .before .before .before .before .before .before .before .before .before .before .before .before .before .before .before .before .before .loop .at) (c .before .before .before .before .before .before .before .before .before .before .before .before .before .before .before .before .field .given .0 .0) (c .before .before .before .before .before .before .before .before .before .before .before .before .before .before .before .before .field .given .0 .1 .0) (c .before .before .before .before .before .before .before .before .before .before .before .before .before .before .to-row .result) (c .before .before .before .before .before .before .before .before .before .before .before .before .before .fault .result) = record {
-  head = c .before .before .before .before .before .before .before .before .before .before .before .before .before .before .before .before .before .before .before .loop .inv;
-  stands = sym (c .before .before .before .before .before .before .before .before .before .before .before .before .before .before .before .before .before .before .decode .ensures) ∙ ap standingOf (c .before .before .before .before .before .before .before .before .before .before .before .before .before .before .before .before .field .given .1);
-  row-is = c .before .before .before .before .before .before .before .before .before .before .before .before .before .before .to-row .ensures;
-  found-is = c .before .before .before .before .before .before .before .before .before .before .before .before .before .fault .ensures;
-} in
-    put-together (now (c .before .before .before .before .before .before .before .before .before .before .before .before .before .before .before .before .before .before .before .before .before .before .before .before .args .query)) (c .before .before .before .before .before .before .before .before .before .before .before .before .before .before .before .before .before .before .before .loop .terms) (c .before .before .before .before .before .before .before .before .before .before .before .before .before .before .before .before .before .before .before .loop .guess) (c .before .before .before .before .before .before .before .before .before .before .before .before .before .before .to-row .result) (c .before .before .before .before .before .before .before .before .before .before .before .before .before .before .before .before .field .given .0 .1 .0)
+loop-again c =
+    let e = c .before .before .before .before .before .before .before .before .before .before .before .before in
+    let r = e .before in
+    put-together (bytes (head r)) (head r .loop .terms) (head r .loop .guess) (row r) (fielded r .field .given .0 .1 .0)
     (c .before .before .before .before .before .before .before .before .before .before .before .own-number .ensures)
     (c .before .before .before .before .before .before .before .before .before .keep-byte .ensures)
     (c .before .before .before .before .before .before .before .keep-byte2 .ensures)
@@ -264,7 +197,7 @@ loop-again c = let known : Read (now (c .before .before .before .before .before 
     (c .before .before .before .before .one-if3 .ensures)
     (c .before .before .keep-value .ensures)
     (c .keep-truth .ensures)
-    (turns known (c .before .before .before .before .before .before .before .before .before .before .before .before .if2 .left) .0)
+    (turns (known r) (e .if2 .left) .0)
 
 pub load-spec : {M : Type 1} → statement M
 load-spec =
