@@ -31,6 +31,9 @@ const WIDTH: usize = 32;
 
 const INDICES: u64 = 4294967296;
 
+// The model's value "where there is none".
+const UNREACHED: u64 = 0;
+
 // What a check answers: a refusal; consistent, with the pairs; or a conflict, with the pairs and the length of the lemma.
 pub enum Checked {
     Refused(Refusal),
@@ -176,7 +179,7 @@ fn value_at(judged: Judged, array: usize, index: u64) -> u64
         }
         k += 1;
     }
-    0
+    UNREACHED
 }
 
 // The answer of a lookup, once the tables are judged: 12, then 11.
