@@ -1,64 +1,117 @@
-// What the programs read and print: a query from standard input, and 01's lines on standard output.
+// What the programs read and print: a query from standard input, and 01's lines on standard output. What is printed is gathered on a page,
+// which goes out when it is full and at the end, so that many short lines take few writes.
+ghost use Prim.Native.Nat.{_≤_};
+ghost use Rattle.io.specs.Counts.{Counts};
 use libc::STDIN_FILENO;
 use libc::STDOUT_FILENO;
 
-// What standard input gave: so many bytes, or none that could be read.
-pub enum Input {
-    Bytes(usize),
-    Unreadable,
+// One byte more than a query may have, so that a longer input is refused with 1, however long it is.
+pub const QUERY_ROOM: usize = 4097;
+
+// How many bytes a page holds.
+pub const PAGE: usize = 4096;
+
+// Reads standard input into the buffer, up to its end or the buffer's, and answers how many bytes there were.
+pub fn read_query(buffer: &mut [u8]) -> usize
+    ensures { λ r. ⌜ Counts r (now (buffer .exit)) ⌝ }
+{
+    io::read_full(STDIN_FILENO, buffer)
 }
 
-// Reads standard input into the buffer, up to its end or the buffer's. What stops short of either could not be read, and standard error
-// says why.
-pub fn read_query(buffer: &mut [u8]) -> Input {
-    let held = io::read_full(STDIN_FILENO, buffer);
-    if held == buffer.len() {
-        return Input::Bytes(held);
+// Was the query read whole? A read that stopped short of the buffer's end must have met the input's. Otherwise standard error says why.
+pub fn was_read(held: usize) -> bool {
+    if held == QUERY_ROOM {
+        return true;
     }
     let mut more = [0u8; 1];
     let got = libc::read(STDIN_FILENO, &mut more);
     if got != 0 {
         os::fail(b"standard input");
-        return Input::Unreadable;
+        return false;
     }
-    Input::Bytes(held)
+    true
 }
 
-pub fn text(bytes: &[u8]) {
-    io::write_all(STDOUT_FILENO, bytes);
+fn send(bytes: &[u8]) {
+    let sent = io::write_all(STDOUT_FILENO, bytes);
+    if !sent {
+        os::fail(b"standard output");
+    }
 }
 
-pub fn number(n: u64) {
-    io::print_decimal(STDOUT_FILENO, n);
+// Each function that prints takes the page and how many bytes stand on it, and answers how many stand there then.
+pub fn byte(page: &mut [u8; PAGE], used: usize, value: u8) -> usize {
+    if used < PAGE {
+        page[used] = value;
+        return used + 1;
+    }
+    send(page);
+    page[0] = value;
+    1
+}
+
+pub fn text(page: &mut [u8; PAGE], used: usize, bytes: &[u8]) -> usize {
+    let mut stand = used;
+    let mut k = 0;
+    while k < bytes.len() {
+        stand = byte(page, stand, bytes[k]);
+        k += 1;
+    }
+    stand
+}
+
+pub fn number(page: &mut [u8; PAGE], used: usize, n: u64) -> usize {
+    let mut digits = [0u8; 20];
+    let count = io::decimal(n, &mut digits);
+    text(page, used, &digits[..count])
+}
+
+// How far a number lies above zero, and 0 for one below.
+fn height(n: i32) -> u64
+    ensures { λ r. ⌜ r ≤ 2147483648 ⌝ }
+{
+    if n < 0 {
+        return 0;
+    }
+    n as u64
+}
+
+// `!n` is -1 - n, so that no number is too low to be printed.
+pub fn signed(page: &mut [u8; PAGE], used: usize, n: i32) -> usize {
+    if n < 0 {
+        let stand = byte(page, used, b'-');
+        return number(page, stand, height(!n) + 1);
+    }
+    number(page, used, height(n))
 }
 
 // "All decimal, one space between."
-pub fn word_and_two(word: &[u8], a: u64, b: u64) {
-    text(word);
-    text(b" ");
-    number(a);
-    text(b" ");
-    number(b);
-    text(b"\n");
+pub fn then_number(page: &mut [u8; PAGE], used: usize, n: u64) -> usize {
+    let stand = byte(page, used, b' ');
+    number(page, stand, n)
 }
 
-pub fn word_and_one(word: &[u8], a: u64) {
-    text(word);
-    text(b" ");
-    number(a);
-    text(b"\n");
+pub fn end_line(page: &mut [u8; PAGE], used: usize) -> usize {
+    byte(page, used, b'\n')
 }
 
-pub fn three(a: u64, b: u64, c: u64) {
-    number(a);
-    text(b" ");
-    number(b);
-    text(b" ");
-    number(c);
-    text(b"\n");
+fn send_front(bytes: &[u8], length: usize) {
+    if length <= bytes.len() {
+        send(&bytes[..length]);
+    }
+}
+
+// Sends what stands on the page.
+pub fn finish(page: &[u8; PAGE], used: usize) {
+    send_front(page, used);
 }
 
 // "`refused` number offset"
 pub fn refused(number: u8, offset: usize) {
-    word_and_two(b"refused", number as u64, offset as u64);
+    let mut page = [0u8; PAGE];
+    let mut used = text(&mut page, 0, b"refused");
+    used = then_number(&mut page, used, number as u64);
+    used = then_number(&mut page, used, offset as u64);
+    used = end_line(&mut page, used);
+    finish(&page, used);
 }

@@ -1,0 +1,15 @@
+//! The judge: decides tiny queries by trying every interpretation, with no
+//! notion of reach, and holds the second program's answers against that.
+
+mod clauses;
+pub mod every;
+pub mod field;
+mod interpretation;
+mod judgement;
+mod lemma;
+pub mod random;
+mod satisfy;
+pub mod tiny;
+mod walks;
+
+pub use judgement::{judge, Verdict};

@@ -1,0 +1,137 @@
+//! Faults injected into a copy of the second program, to show that the tester
+//! finds and shrinks them. Each is named by what goes wrong.
+
+use crate::expected::expected;
+use crate::product::Product;
+use crate::request::{Question, Request};
+use crate::rooms::answer_length;
+use judge::field::{decode, encode, Field};
+
+#[derive(Clone, Copy, Debug, PartialEq, Eq)]
+pub enum Fault {
+    None,
+    /// Conditionals lead to the other branch.
+    BranchNotChosen,
+    /// False equalities are walked like true ones.
+    FalseEqualityFollowed,
+    /// Writes are taken as array variables: no source, no edge.
+    WriteTakenAsVariable,
+    /// The literal "equal" is left out, since the two values agree.
+    EqualLeftOut,
+    /// The pairs of a conflict are one too few.
+    PairLost,
+    /// The last byte of the lemma is not written.
+    LastByteLost,
+    /// An answer that just fits is refused.
+    RoomTooStrict,
+    /// A term not yet given is reported a byte late.
+    OffsetMoved,
+    /// One literal of a clause has the other sign.
+    SignTurned,
+    /// A cell that no source reaches holds 1.
+    EmptyCellFilled,
+}
+
+pub const FAULTS: [Fault; 10] = [
+    Fault::BranchNotChosen,
+    Fault::FalseEqualityFollowed,
+    Fault::WriteTakenAsVariable,
+    Fault::EqualLeftOut,
+    Fault::PairLost,
+    Fault::LastByteLost,
+    Fault::RoomTooStrict,
+    Fault::OffsetMoved,
+    Fault::SignTurned,
+    Fault::EmptyCellFilled,
+];
+
+pub struct FaultyProduct {
+    pub fault: Fault,
+}
+
+impl Product for FaultyProduct {
+    fn answers(&mut self, requests: &[Request]) -> Vec<String> {
+        requests.iter().map(|request| self.answer(request)).collect()
+    }
+}
+
+impl FaultyProduct {
+    fn answer(&self, request: &Request) -> String {
+        let mistaken = Request { query: self.mistake(&request.query), ..request.clone() };
+        self.disturb(request, expected(&mistaken))
+    }
+
+    /// The query as the faulty copy takes it.
+    fn mistake(&self, query: &[u8]) -> Vec<u8> {
+        let (mut fields, rest) = decode(query);
+        for field in &mut fields {
+            match (self.fault, field) {
+                (Fault::BranchNotChosen, Field::Conditional { if_true, if_false, .. }) => {
+                    std::mem::swap(if_true, if_false);
+                }
+                (Fault::FalseEqualityFollowed, Field::Equality { truth, .. }) => *truth |= 1,
+                (Fault::WriteTakenAsVariable, field @ Field::Write { .. }) => {
+                    *field = Field::Variable;
+                }
+                _ => {}
+            }
+        }
+        [encode(&fields), rest.to_vec()].concat()
+    }
+
+    /// The answer as the faulty copy gives it.
+    fn disturb(&self, request: &Request, answer: String) -> String {
+        match (self.fault, request.question) {
+            (Fault::EqualLeftOut, Question::Verdict) => without_equal(&answer),
+            (Fault::PairLost, Question::Verdict) => with_pair_lost(&answer),
+            (Fault::LastByteLost, Question::Check { .. }) => with_last_byte_lost(&answer),
+            (Fault::RoomTooStrict, Question::Check { room }) => {
+                let exact = answer_length(request.question, &request.query);
+                let refused = format!("refused 10 0\n{}\n", "aa".repeat(usize::from(room)));
+                if room > 0 && exact == Some(usize::from(room)) {
+                    refused
+                } else {
+                    answer
+                }
+            }
+            (Fault::OffsetMoved, _) => match answer.strip_prefix("refused 6 ") {
+                Some(offset) => format!("refused 6 1{offset}"),
+                None => answer,
+            },
+            (Fault::SignTurned, Question::Clauses { .. }) => with_sign_turned(&answer),
+            (Fault::EmptyCellFilled, Question::Lookup { .. }) if answer == "0\n" => {
+                "1\n".to_string()
+            }
+            _ => answer,
+        }
+    }
+}
+
+fn without_equal(answer: &str) -> String {
+    answer.split_inclusive('\n').filter(|line| !line.starts_with("eq ")).collect()
+}
+
+fn with_pair_lost(answer: &str) -> String {
+    let (first, rest) = answer.split_once('\n').unwrap_or((answer, ""));
+    match first.strip_prefix("conflict ").and_then(|pairs| pairs.parse::<usize>().ok()) {
+        Some(pairs) => format!("conflict {}\n{rest}", pairs - 1),
+        None => answer.to_string(),
+    }
+}
+
+fn with_last_byte_lost(answer: &str) -> String {
+    let lines: Vec<&str> = answer.lines().collect();
+    let words: Vec<&str> = lines[0].split(' ').collect();
+    match words[..] {
+        ["conflict", _, length] => {
+            let end = 2 * length.parse::<usize>().expect("a length");
+            format!("{}\n{}aa{}\n", lines[0], &lines[1][..end - 2], &lines[1][end..])
+        }
+        _ => answer.to_string(),
+    }
+}
+
+fn with_sign_turned(answer: &str) -> String {
+    // The first clause that follows another one and begins with a minus.
+    answer.replacen(" 0 -", " 0 ", 1)
+}

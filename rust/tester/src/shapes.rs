@@ -1,0 +1,217 @@
+//! Random accepted queries of many shapes. A shape says which kinds of field
+//! come how often, how small the values are and how often one is disturbed.
+
+use crate::builder::Builder;
+use crate::memory::Memory;
+use judge::field::encode;
+use judge::random::Random;
+
+/// Weights of the fields 01 to 07, in this order.
+type Weights = [usize; 7];
+
+pub struct Shape {
+    weights: Weights,
+    /// Values are below this, or any if it is 0.
+    values: usize,
+    /// How often, in percent, a field names the newest array.
+    newest: usize,
+    fields: usize,
+    /// Whether to go on until every series is full.
+    full: bool,
+}
+
+pub const SHAPES: [Shape; 8] = [
+    // Chains of writes.
+    Shape::of([4, 0, 1, 12, 0, 8, 0], 6, 80, 40),
+    // Meshes of equalities.
+    Shape::of([2, 0, 8, 2, 0, 4, 12], 3, 10, 60),
+    // Conditionals.
+    Shape::of([2, 4, 4, 1, 12, 6, 2], 4, 30, 50),
+    // Colliding values.
+    Shape::of([4, 1, 2, 4, 2, 8, 3], 2, 30, 40),
+    // Mixed.
+    Shape::of([4, 2, 2, 6, 4, 8, 4], 8, 40, 120),
+    // Values of any size.
+    Shape::of([4, 2, 2, 6, 4, 8, 4], 0, 40, 60),
+    // Few fields.
+    Shape::of([3, 1, 2, 3, 1, 5, 2], 3, 40, 12),
+    // The largest sizes.
+    Shape { full: true, ..Shape::of([3, 2, 2, 4, 3, 8, 5], 12, 40, 400) },
+];
+
+impl Shape {
+    const fn of(weights: Weights, values: usize, newest: usize, fields: usize) -> Shape {
+        Shape { weights, values, newest, fields, full: false }
+    }
+
+    /// An accepted query of this shape.
+    pub fn query(&self, random: &mut Random) -> Vec<u8> {
+        let mut builder = Builder::default();
+        let wrong = *random.pick(&[0, 1, 3, 30]);
+        builder.base(self.value(random));
+        let memory = self.memory(random);
+        builder.variable(memory);
+        for _ in 0..random.below(self.fields) {
+            self.add(random, &mut builder, wrong);
+        }
+        if self.full {
+            self.fill(random, &mut builder, wrong);
+        }
+        encode(&builder.fields)
+    }
+
+    fn value(&self, random: &mut Random) -> u32 {
+        let any = random.next() as u32;
+        match (self.values, random.below(8)) {
+            (0, 0) => u32::MAX - any % 3,
+            (0, 1..=3) => any % 3,
+            (0, _) => any,
+            (bound, _) => any % bound as u32,
+        }
+    }
+
+    fn memory(&self, random: &mut Random) -> Memory {
+        let mut memory = Memory::all(self.value(random));
+        for _ in 0..random.below(4) {
+            memory = memory.with(self.value(random), self.value(random));
+        }
+        memory
+    }
+
+    fn kind(&self, random: &mut Random) -> usize {
+        let mut left = random.below(self.weights.iter().sum());
+        for (kind, weight) in self.weights.iter().enumerate() {
+            if left < *weight {
+                return kind + 1;
+            }
+            left -= weight;
+        }
+        unreachable!("the weights add up");
+    }
+
+    fn array(&self, random: &mut Random, builder: &Builder) -> u16 {
+        if random.chance(self.newest) {
+            builder.arrays.len() as u16 - 1
+        } else {
+            builder.any_array(random)
+        }
+    }
+
+    /// Adds a field of a random kind, if there is room for its term.
+    fn add(&self, random: &mut Random, builder: &mut Builder, wrong: usize) {
+        match self.kind(random) {
+            1 if builder.room_for_bases(1) => {
+                builder.base(self.value(random));
+            }
+            2 if builder.room_for_boolean() => {
+                builder.boolean(random.chance(50));
+            }
+            6 if builder.room_for_bases(1) => self.add_read(random, builder, wrong),
+            7 if builder.room_for_boolean() => self.add_equality(random, builder, wrong),
+            kind @ 3..=5 if builder.room_for_array() => self.add_array(random, builder, kind),
+            _ => {}
+        }
+    }
+
+    fn add_read(&self, random: &mut Random, builder: &mut Builder, wrong: usize) {
+        let array = self.array(random, builder);
+        let index = builder.any_base(random);
+        if random.chance(wrong) {
+            builder.read_as(array, index, self.value(random));
+        } else {
+            builder.read(array, index);
+        }
+    }
+
+    fn add_array(&self, random: &mut Random, builder: &mut Builder, kind: usize) {
+        let array = self.array(random, builder);
+        let other = builder.any_array(random);
+        match kind {
+            3 => {
+                let twin = builder.arrays[usize::from(other)].clone();
+                let memory = if random.chance(50) { twin } else { self.memory(random) };
+                builder.variable(memory);
+            }
+            5 if !builder.booleans.is_empty() => {
+                let boolean = random.below(builder.booleans.len()) as u16;
+                let branches = if random.chance(50) { (array, other) } else { (other, array) };
+                builder.conditional(boolean, branches.0, branches.1);
+            }
+            _ => {
+                let (index, value) = (builder.any_base(random), builder.any_base(random));
+                builder.write(array, index, value);
+            }
+        }
+    }
+
+    /// An equality, mostly of equal memories, and true where they are.
+    fn add_equality(&self, random: &mut Random, builder: &mut Builder, wrong: usize) {
+        let left = self.array(random, builder);
+        let memory = builder.arrays[usize::from(left)].clone();
+        let all = 0..builder.arrays.len() as u16;
+        let equal: Vec<u16> =
+            all.filter(|array| builder.arrays[usize::from(*array)] == memory).collect();
+        let right =
+            if random.chance(75) { *random.pick(&equal) } else { builder.any_array(random) };
+        let difference = memory.difference(&builder.arrays[usize::from(right)]);
+        let index = match difference {
+            Some(index) => builder.base_with(index),
+            None => Some(builder.any_base(random)),
+        };
+        let truth = difference.is_none() != random.chance(wrong);
+        if let Some(index) = index {
+            builder.equality(left, right, truth, index);
+        }
+    }
+
+    /// Goes on until there are 48 arrays, 64 Booleans and 256 base terms.
+    fn fill(&self, random: &mut Random, builder: &mut Builder, wrong: usize) {
+        while builder.room_for_array() {
+            let kind = *random.pick(&[3, 4, 4, 5]);
+            self.add_array(random, builder, kind);
+        }
+        while builder.room_for_boolean() {
+            if random.chance(50) {
+                self.add_equality(random, builder, wrong);
+            } else {
+                builder.boolean(random.chance(50));
+            }
+        }
+        while builder.room_for_bases(1) {
+            self.add_read(random, builder, wrong);
+        }
+    }
+}
+
+#[cfg(test)]
+mod tests {
+    use super::*;
+    use judge::field::{decode, Series};
+    use second::verdict_lines;
+
+    #[test]
+    fn every_shape_is_accepted_and_gives_both_verdicts() {
+        for (place, shape) in SHAPES.iter().enumerate() {
+            let (mut consistent, mut conflict) = (0, 0);
+            for seed in 0..200 {
+                let lines = verdict_lines(&shape.query(&mut Random::new(seed)));
+                consistent += usize::from(lines.starts_with("consistent"));
+                conflict += usize::from(lines.starts_with("conflict"));
+            }
+            assert_eq!(consistent + conflict, 200, "shape {place}");
+            assert!(consistent > 10 && conflict > 10, "shape {place}: {consistent} {conflict}");
+        }
+    }
+
+    #[test]
+    fn the_largest_shape_fills_every_series() {
+        for seed in 0..50 {
+            let query = SHAPES[SHAPES.len() - 1].query(&mut Random::new(seed));
+            let (fields, rest) = decode(&query);
+            assert!(rest.is_empty());
+            let count = |series| fields.iter().filter(|field| field.gives() == series).count();
+            let counts = [Series::Array, Series::Base, Series::Boolean].map(count);
+            assert_eq!(counts, [48, 256, 64]);
+        }
+    }
+}

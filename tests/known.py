@@ -1,0 +1,213 @@
+#!/usr/bin/env python3
+"""Makes the known queries of 01 (K1 to K12) and a few at its bounds, with what the three programs print on each.
+
+  tests/known.py           write tests/known/, and what the programs' crates are run on
+  tests/known.py --check   exit 1 where what stands there is something else
+
+The verdict lines are typed from 01; those of the queries at the bounds follow from how they are made, as is said beside them. The
+clauses are made from the literals by 01's rule, written once more here. Nothing comes from a program that checks queries.
+
+  NAME.hex          the query
+  NAME.verdict      what the verdict program prints
+  NAME.clauses      what the clause program prints
+  NAME.lookup-A-I   what the lookup program prints for array A and index I
+"""
+import os
+import sys
+
+HERE = os.path.dirname(os.path.abspath(__file__))
+KNOWN = os.path.join(HERE, "known")
+CRATES = os.path.join(HERE, "..", "crates")
+
+
+def field(tag, value):
+    return bytes([tag]) + len(value).to_bytes(2, "big") + value
+
+
+def numbers(*terms):
+    return b"".join(term.to_bytes(2, "big") for term in terms)
+
+
+def base(value):
+    return field(1, value.to_bytes(4, "big"))
+
+
+def boolean(truth):
+    return field(2, bytes([truth]))
+
+
+def variable():
+    return field(3, b"")
+
+
+def write(value, index, beneath):
+    return field(4, numbers(beneath, index, value))
+
+
+def conditional(chooser, if_true, if_false):
+    return field(5, numbers(chooser, if_true, if_false))
+
+
+def read(value, array, index):
+    return field(6, numbers(array, index) + value.to_bytes(4, "big"))
+
+
+def equality(left, right, truth, left_witness, right_witness):
+    return field(7, numbers(left, right) + bytes([truth]) + numbers(left_witness, right_witness))
+
+
+def clauses(fields, literals):
+    """01, The clauses: what the clause program prints for a lemma."""
+    bases = sum(one[0] in (1, 6) for one in fields)
+    booleans = sum(one[0] in (2, 7) for one in fields)
+
+    def bit(term, k):
+        return 32 * term + k + 1
+
+    lines, links = [], []
+    fresh = 32 * bases + booleans
+    first = literals[0].split()
+    if first[0] == "eq":
+        i, j = int(first[1]), int(first[2])
+        for k in range(32):
+            fresh += 1
+            lines += [[bit(i, k), bit(j, k), -fresh], [-bit(i, k), -bit(j, k), -fresh]]
+            links.append(fresh)
+    for literal in literals:
+        word, *terms = literal.split()
+        if word in ("ne", "then"):
+            v, w = map(int, terms)
+            fresh += 1
+            for k in range(32):
+                lines += [[-bit(v, k), bit(w, k), -fresh], [bit(v, k), -bit(w, k), -fresh]]
+            links.append(fresh)
+    signs = {"true": -1, "false": 1}
+    chosen = [literal.split() for literal in literals if literal.split()[0] in signs]
+    lines.append([signs[word] * (32 * bases + int(m) + 1) for word, m in chosen] + links)
+    head = [f"p cnf {fresh} {len(lines)}"]
+    return head + [" ".join(map(str, line + [0])) for line in lines]
+
+
+made = {}
+
+
+def text(lines):
+    return "".join(line + "\n" for line in lines).encode()
+
+
+def known(name, fields, verdict, head=None, lookups=()):
+    """A query, its verdict lines, the clause program's first line where 01 fixes it, and lookups (array, index, what is printed)."""
+    made[f"{name}.hex"] = text([b"".join(fields).hex()])
+    made[f"{name}.verdict"] = text(verdict)
+    word = verdict[0].split()[0]
+    if word == "conflict":
+        printed = clauses(fields, verdict[1:])
+        assert head is None or printed[0] == head, (name, printed[0])
+    else:
+        printed = ["refused 12 0"] if word == "consistent" else verdict
+    made[f"{name}.clauses"] = text(printed)
+    for array, index, line in lookups:
+        made[f"{name}.lookup-{array}-{index}"] = text([line])
+
+
+# --- the known queries, as 01 has them
+def k1(first=7, second=9):
+    return [base(5), base(5), variable(), read(first, 0, 0), read(second, 0, 1)]
+
+
+known("K1", k1(), ["conflict 2", "eq 0 1", "then 2 3"], "p cnf 161 129", [(0, 5, "refused 12 0"), (1, 5, "refused 12 0")])
+assert b"".join(k1()).hex() == "010004000000050100040000000503000006000800000000000000070600080000000100000009"
+known("K2", k1(7, 7), ["consistent 2", "0 5 7"], None, [(0, 5, "7"), (0, 6, "0"), (0, 4294967295, "0"), (1, 5, "refused 11 0")])
+known("K3", [base(5), variable(), read(7, 0, 0), read(9, 0, 0)], ["conflict 2", "then 1 2"], "p cnf 97 65")
+
+
+def k4(second):
+    return [base(1), base(second), base(30), variable(), write(2, 1, 0), read(8, 1, 0), read(9, 0, 0)]
+
+
+known("K4", k4(2), ["conflict 5", "ne 0 1", "then 3 4"])
+known("K5", k4(1), ["conflict 3", "eq 1 0", "then 2 3"])
+
+
+def k6(truth, last):
+    fields = [base(value) for value in (3, 4, 5, 10, 11, 6)]
+    fields += [variable(), variable(), write(3, 0, 0), write(4, 1, 1)]
+    fields += [read(20, 0, 2), read(21, 1, 2), read(0, 2, 5), read(last, 3, 5)]
+    return fields + [equality(2, 3, truth, 8, 9)]
+
+
+K6_LINES = ["conflict 22", "ne 2 0", "true 0", "ne 2 1", "then 6 7"]
+K8_CELLS = ["0 5 20", "0 6 0", "1 5 21", "1 6 1", "2 3 10", "2 5 20", "2 6 0", "3 4 11", "3 5 21", "3 6 1"]
+K8_LOOKUPS = [tuple(cell.split()) for cell in K8_CELLS] + [(3, 7, "0"), (4, 7, "refused 11 0"), (0, 3, "0"), (47, 0, "refused 11 0"), (4294967295, 0, "refused 11 0")]
+known("K6", k6(1, 0), K6_LINES, "p cnf 324 193", [(0, 5, "refused 12 0")])
+known("K7", k6(0, 0), ["refused 9 110"], None, [(0, 5, "refused 9 110")])
+known("K8", k6(0, 1), ["consistent 10"] + K8_CELLS, None, K8_LOOKUPS)
+K9 = [boolean(0), base(1), variable(), variable(), conditional(0, 0, 1), read(4, 2, 0), read(5, 1, 0), read(6, 0, 0)]
+known("K9", K9, ["conflict 5", "false 0", "then 1 2"])
+known("K10-empty", [], ["consistent 0"], None, [(0, 0, "refused 11 0")])
+known("K10-48", [variable()] * 48, ["consistent 0"], None, [(47, 0, "0"), (48, 0, "refused 11 0")])
+known("K10-49", [variable()] * 49, ["refused 5 144"], None, [(0, 0, "refused 5 144")])
+known("K11-tag", [bytes.fromhex("090000")], ["refused 3 0"], None, [(0, 0, "refused 3 0")])
+known("K11-cut", [bytes.fromhex("0100040000")], ["refused 2 0"], None, [(0, 0, "refused 2 0")])
+known("K11-length", [bytes.fromhex("030005")], ["refused 4 0"], None, [(0, 0, "refused 4 0")])
+K12 = [base(0), base(4294967295), variable(), read(1, 0, 0), read(2, 0, 1)]
+known("K12", K12, ["consistent 2", "0 0 1", "0 4294967295 2"], None, [(0, 0, "1"), (0, 4294967295, "2"), (0, 4294967294, "0")])
+
+# --- every kind of literal in one lemma. The write reaches A1, A2 and A3, each of the reads all four arrays: 3 + 8 pairs.
+MIXED = [base(1), base(1), base(2), boolean(1), boolean(0), variable(), write(2, 2, 0)]
+MIXED += [conditional(0, 1, 0), conditional(1, 0, 2), read(5, 0, 0), read(6, 3, 1)]
+known("mixed", MIXED, ["conflict 11", "eq 0 1", "ne 0 2", "true 0", "false 1", "then 3 4"])
+
+# --- at the bounds. A chain of 48 arrays: 47 writes at indices 100 to 146, and a read at index 1 of each end. Each read reaches all 48
+# arrays; a write reaches those from itself upward, as its own edge is closed to it. The lemma has 49 literals, the clauses 12,625 numbers.
+CHAIN = [base(1), base(1)] + [base(100 + n) for n in range(47)] + [variable()]
+CHAIN += [write(2 + n, 2 + n, n) for n in range(47)] + [read(5, 0, 0), read(6, 47, 1)]
+CHAIN_PAIRS = 2 * 48 + sum(range(1, 48))
+CHAIN_LINES = [f"conflict {CHAIN_PAIRS}", "eq 0 1"] + [f"ne 0 {2 + n}" for n in range(47)] + ["then 49 50"]
+known("longest", CHAIN, CHAIN_LINES, "p cnf 1712 3137")
+assert len(CHAIN_LINES) == 1 + 49 and sum(len(line.split()) for line in clauses(CHAIN, CHAIN_LINES[1:])[1:]) == 12625
+
+
+# Every source reaches every array: 47 writes and 255 reads at one index, the arrays joined by true equalities, so 48 times 302 pairs.
+def all_pairs(last):
+    fields = [base(1), variable(), read(7, 0, 0)]
+    for array in range(1, 48):
+        fields += [write(1, 0, array - 1), read(7, array, 0), equality(array - 1, array, 1, array, array + 1)]
+    return fields + [read(7, 0, 0)] * 206 + [read(last, 0, 0)]
+
+
+known("all-pairs", all_pairs(7), ["consistent 14496"] + [f"{array} 1 7" for array in range(48)], None, [(47, 1, "7"), (47, 7, "0")])
+known("all-pairs-conflict", all_pairs(8), ["conflict 14496", "then 1 255"], None, [(0, 1, "refused 12 0")])
+
+# --- what rt runs the programs on
+RUNS = {
+    "verdict/stdin": b"".join(k6(0, 1)),
+    "verdict/stdout": made["K8.verdict"],
+    "lookup/stdin": b"".join(k6(0, 1)),
+    "lookup/stdout": b"20\n",
+    "lookup/data/cell.txt": b"2\n5\n",
+    "clauses/stdin": b"".join(k6(1, 0)),
+    "clauses/stdout": made["K6.clauses"],
+}
+
+
+def main():
+    files = {os.path.join(KNOWN, name): content for name, content in made.items()}
+    files.update({os.path.join(CRATES, name): content for name, content in RUNS.items()})
+    if sys.argv[1:] == ["--check"]:
+        for path, content in files.items():
+            with open(path, "rb") as file:
+                if file.read() != content:
+                    sys.exit(f"{path} is not what tests/known.py makes")
+        strays = set(os.listdir(KNOWN)) - set(made)
+        if strays:
+            sys.exit(f"tests/known.py makes no {min(strays)}")
+    else:
+        for path, content in files.items():
+            os.makedirs(os.path.dirname(path), exist_ok=True)
+            with open(path, "wb") as file:
+                file.write(content)
+    print(f"{len(made)} files")
+
+
+main()
