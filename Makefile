@@ -1,11 +1,17 @@
-# make run: the main job on the examples. make test: every proof and every test. make bench: the library beside the second program.
-.PHONY: run test bench
+# make run: the main job on known queries. make test: every proof and every test. make bench: the time of each call.
+.PHONY: run test bench soak
 
 run:
-	@echo "make run: there is no program yet" >&2; exit 1
+	@examples/run
 
 test:
 	@tests/run
 
 bench:
-	@echo "make bench: there is nothing to measure yet" >&2; exit 1
+	@rt check repeat
+	@tests/bench
+
+# the product against the second program, SEEDS="5 6 7" COUNT=10000 or as asked
+soak:
+	@rt check answers
+	@tests/second
