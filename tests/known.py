@@ -15,45 +15,21 @@ clauses are made from the literals by 01's rule, written once more here. Nothing
 import os
 import sys
 
+import fields
+from fields import base, boolean, conditional, equality, variable
+
 HERE = os.path.dirname(os.path.abspath(__file__))
 KNOWN = os.path.join(HERE, "known")
 CRATES = os.path.join(HERE, "..", "crates")
 
 
-def field(tag, value):
-    return bytes([tag]) + len(value).to_bytes(2, "big") + value
-
-
-def numbers(*terms):
-    return b"".join(term.to_bytes(2, "big") for term in terms)
-
-
-def base(value):
-    return field(1, value.to_bytes(4, "big"))
-
-
-def boolean(truth):
-    return field(2, bytes([truth]))
-
-
-def variable():
-    return field(3, b"")
-
-
 def write(value, index, beneath):
-    return field(4, numbers(beneath, index, value))
-
-
-def conditional(chooser, if_true, if_false):
-    return field(5, numbers(chooser, if_true, if_false))
+    """In the order of 01's words: A2 writes b3 at b0 over A0."""
+    return fields.write(beneath, index, value)
 
 
 def read(value, array, index):
-    return field(6, numbers(array, index) + value.to_bytes(4, "big"))
-
-
-def equality(left, right, truth, left_witness, right_witness):
-    return field(7, numbers(left, right) + bytes([truth]) + numbers(left_witness, right_witness))
+    return fields.read(array, index, value)
 
 
 def clauses(fields, literals):

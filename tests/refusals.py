@@ -10,44 +10,9 @@ stands in stdin behind its length, two bytes, and has one line in stdout.
 import os
 import sys
 
+from fields import base, boolean, conditional, equality, read, variable, write
+
 HERE = os.path.join(os.path.dirname(os.path.abspath(__file__)), "..", "crates", "refusals")
-
-
-def field(tag, value):
-    return bytes([tag]) + len(value).to_bytes(2, "big") + value
-
-
-def numbers(*terms):
-    return b"".join(term.to_bytes(2, "big") for term in terms)
-
-
-def base(value=0):
-    return field(1, value.to_bytes(4, "big"))
-
-
-def boolean(truth=0):
-    return field(2, bytes([truth]))
-
-
-def variable():
-    return field(3, b"")
-
-
-def write(beneath, index, value):
-    return field(4, numbers(beneath, index, value))
-
-
-def conditional(chooser, if_true, if_false):
-    return field(5, numbers(chooser, if_true, if_false))
-
-
-def read(array, index, value=0):
-    return field(6, numbers(array, index) + value.to_bytes(4, "big"))
-
-
-def equality(left, right, truth, left_witness, right_witness):
-    return field(7, numbers(left, right) + bytes([truth]) + numbers(left_witness, right_witness))
-
 
 cases = []
 
