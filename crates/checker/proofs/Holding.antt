@@ -10,7 +10,8 @@ use mathlib.Core.Option.{none, some}
 use lib.ListN.{getD}
 use Rattle.paper.specs.Lists.{find, range}
 use Rattle.terms.specs.declared.Sources.{Sources}
-use Rattle.checker.specs.Held.{holdsAt, valueHeld, modelIn}
+use Rattle.reach.specs.Reached.{valueAt}
+use Rattle.checker.specs.Held.{holdsOf, holdsAt, valueHeld, modelIn}
 
 -- the rest of a range, one by one
 range-step : (k n : ℕ) → k < n → range k (n - k) ≡ k ∷ range (k + 1) (n - (k + 1))
@@ -26,6 +27,10 @@ module _ (s : Sources) (rows : List ℕ) (a x : ℕ) where
   pub left-first : LeftFrom 0
   unfolding modelIn
   left-first = let all : s .count - 0 ≡ s .count = omega arith in rw all
+
+  -- what is found at the row that was read is found at the table's
+  pub held-at : (k : ℕ) {row : ℕ} {answer : Bool} → row ≡ getD rows k 0 → holdsOf (valueAt s k) x row a ≡ answer → holdsAt s rows a x k ≡ answer
+  held-at k is found = ap (λ (row : ℕ). holdsOf (valueAt s k) x row a) (sym is) ∙ found
 
   pub left-found : (k : ℕ) → k < s .count → holdsAt s rows a x k ≡ true → LeftFrom k → getD (s .assigned) k 0 ≡ modelIn s rows a x
   left-found k inside here left = sym (left ∙ ap (λ (ks : List ℕ). valueHeld s (find (holdsAt s rows a x) ks)) (range-step k (s .count) inside) ∙ found (holdsAt s rows a x k) here)

@@ -174,7 +174,7 @@ fn value_at(judged: Judged, array: usize, index: u64) -> u64
     let count = sources.count;
     let mut k = 0;
     while k < count {
-        if holds(sources.index_value[k], index, rows[k], array) {
+        if holds(sources.index_value[k], index, reach::row(&rows, k), array) {
             return sources.assigned[k];
         }
         k += 1;

@@ -26,7 +26,7 @@ pub fn first_pair(sources: Sources, rows: &[u64; 304], next: &[u16; 304]) -> Fou
     let count = sources.count;
     let mut s = 0;
     'first: while s < count {
-        let row = rows[s];
+        let row = reach::row(rows, s);
         let value = sources.assigned[s];
         let mut t = next[s] as usize;
         while t < count {

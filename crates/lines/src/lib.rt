@@ -120,7 +120,7 @@ fn next_cell(
     let mut k = 0;
     while k < SOURCES && k < count {
         let index = indices[k];
-        if from <= index && (!found || index < least) && reaches(rows[k], array) {
+        if from <= index && (!found || index < least) && reaches(reach::row(rows, k), array) {
             found = true;
             least = index;
             value = values[k];

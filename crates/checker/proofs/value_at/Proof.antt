@@ -1,6 +1,6 @@
 -- What is left to search answers for the whole table, by Holding.
 -- Assumes nothing.
-use Rattle.checker.proofs.Holding.{LeftFrom, left-first, left-found, left-next, left-none}
+use Rattle.checker.proofs.Holding.{LeftFrom, held-at, left-first, left-found, left-next, left-none}
 use mathlib.Core.Path.{_≡_, refl, sym, _∙_}
 use Prim.Native.Nat.{_-_, _≤_}
 use native.Mathlib.Omega.{arith}
@@ -23,11 +23,8 @@ mul-holds c = omega arith
 element-copy-out-holds : tie.Need-element-copy-out-holds Inv-loop μ-loop
 element-copy-out-holds c = omega arith
 
-mul-holds-2 : tie.Need-mul-holds-2 Inv-loop μ-loop
-mul-holds-2 c = omega arith
-
-array-read-holds : tie.Need-array-read-holds Inv-loop μ-loop
-array-read-holds c = omega arith
+row-requires : tie.Need-row-requires Inv-loop μ-loop
+row-requires c κs = omega (arith, c .before .before .before .loop .inv .2)
 
 holds-requires : tie.Need-holds-requires Inv-loop μ-loop
 holds-requires c κs = search needs
@@ -40,7 +37,7 @@ element-copy-out-result c = omega arith
 
 returns : tie.Need-returns Inv-loop μ-loop
 returns c =
-    left-found (c .before .before .before .before .before .before .before .before .args .judged .sources) (c .before .before .before .before .before .before .before .before .args .judged .rows) (c .before .before .before .before .before .before .before .before .args .array) (c .before .before .before .before .before .before .before .before .args .index) (c .before .before .before .before .before .loop .k) (c .before .before .before .before .loop-test .taken) (sym (c .before .before .holds .ensures) ∙ c .before .if1 .taken) (c .before .before .before .before .before .loop .inv .3)
+    left-found (c .before .before .before .before .before .before .before .before .before .before .args .judged .sources) (c .before .before .before .before .before .before .before .before .before .before .args .judged .rows) (c .before .before .before .before .before .before .before .before .before .before .args .array) (c .before .before .before .before .before .before .before .before .before .before .args .index) (c .before .before .before .before .before .before .before .loop .k) (c .before .before .before .before .before .before .loop-test .taken) (held-at (c .before .before .before .before .before .before .before .before .before .before .args .judged .sources) (c .before .before .before .before .before .before .before .before .before .before .args .judged .rows) (c .before .before .before .before .before .before .before .before .before .before .args .array) (c .before .before .before .before .before .before .before .before .before .before .args .index) (c .before .before .before .before .before .before .before .loop .k) (c .before .before .before .row .ensures) (sym (c .before .before .holds .ensures) ∙ c .before .if1 .taken)) (c .before .before .before .before .before .before .before .loop .inv .3)
 
 add-k : tie.Need-add-k Inv-loop μ-loop
 add-k c = omega arith
@@ -52,8 +49,8 @@ loop-again : tie.Need-loop-again Inv-loop μ-loop
 loop-again c = (
   omega arith,
   refl,
-  c .before .before .before .before .loop .inv .2,
-  left-next (c .before .before .before .before .before .before .before .args .judged .sources) (c .before .before .before .before .before .before .before .args .judged .rows) (c .before .before .before .before .before .before .before .args .array) (c .before .before .before .before .before .before .before .args .index) (c .before .before .before .before .loop .k) (c .before .before .before .loop-test .taken) (sym (c .before .holds .ensures) ∙ c .if1 .left) (c .before .before .before .before .loop .inv .3),
+  c .before .before .before .before .before .before .loop .inv .2,
+  left-next (c .before .before .before .before .before .before .before .before .before .args .judged .sources) (c .before .before .before .before .before .before .before .before .before .args .judged .rows) (c .before .before .before .before .before .before .before .before .before .args .array) (c .before .before .before .before .before .before .before .before .before .args .index) (c .before .before .before .before .before .before .loop .k) (c .before .before .before .before .before .loop-test .taken) (held-at (c .before .before .before .before .before .before .before .before .before .args .judged .sources) (c .before .before .before .before .before .before .before .before .before .args .judged .rows) (c .before .before .before .before .before .before .before .before .before .args .array) (c .before .before .before .before .before .before .before .before .before .args .index) (c .before .before .before .before .before .before .loop .k) (c .before .before .row .ensures) (sym (c .before .holds .ensures) ∙ c .if1 .left)) (c .before .before .before .before .before .before .loop .inv .3),
 )
 
 returns-2 : tie.Need-returns-2 Inv-loop μ-loop
@@ -68,8 +65,7 @@ value-at-spec =
     loop-holds
     mul-holds
     element-copy-out-holds
-    mul-holds-2
-    array-read-holds
+    row-requires
     holds-requires
     mul-result
     element-copy-out-result

@@ -20,11 +20,8 @@ mul-index c = search needs
 element-copy-out-index : tie.Need-element-copy-out-index Inv-loop μ-loop
 element-copy-out-index c = search needs
 
-mul-reaches : tie.Need-mul-reaches Inv-loop μ-loop
-mul-reaches c = search needs
-
-element-copy-out-reaches : tie.Need-element-copy-out-reaches Inv-loop μ-loop
-element-copy-out-reaches c = search needs
+row-requires : tie.Need-row-requires Inv-loop μ-loop
+row-requires c κs = search needs
 
 reaches-requires : tie.Need-reaches-requires Inv-loop μ-loop
 reaches-requires c κs = search needs
@@ -59,8 +56,7 @@ next-cell-spec =
     loop-holds
     mul-index
     element-copy-out-index
-    mul-reaches
-    element-copy-out-reaches
+    row-requires
     reaches-requires
     mul-value
     element-copy-out-value

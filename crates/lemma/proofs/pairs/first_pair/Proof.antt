@@ -1,16 +1,25 @@
 -- `lemma::pairs::first_pair` meets its contract. The invariants say what is left to do: the pair asked for is that of the sources from s on, and
 -- inside, that of s with the sources from t on, or else that of the sources after s. A link skips only sources of another index value.
 -- Assumes nothing.
-use Prim.Native.Nat.{_-_, _<_, _≤_}
+use Prim.Native.Nat.{ℕ, _-_, _<_, _≤_}
 use native.Mathlib.Omega.{arith}
 use mathlib.Core.Path.{_≡_, refl, sym, ap, _∙_}
+use mathlib.Core.Bool.{Bool}
 use lib.ListN.{getD}
-use Rattle.reach.specs.Reached.{valueAt}
+use Rattle.terms.specs.declared.Sources.{Sources}
+use Rattle.reach.specs.Reached.{originAt, valueAt}
 use Rattle.lemma.specs.declared.Found.{Found}
-use Rattle.lemma.specs.Pairs.{pairIn, foundOf}
+use Rattle.lemma.specs.Pairs.{clashOf, pairIn, foundOf}
 use Rattle.lemma.proofs.Pairing.{restFrom, searchFrom, rest-all, rest-end, search-end, search-hit, search-miss, search-start}
 use Rattle.lemma.proofs.pairs.first_pair.Statement.{statement}
 use Rattle.lemma.proofs.pairs.first_pair.Tie as tie
+
+-- what is found at the row that was read is found at the table's
+at-row : (sources : Sources) (s t : ℕ) {row there : ℕ} {answer : Bool} → row ≡ there
+    → clashOf (getD (sources .assigned) s 0) (getD (sources .assigned) t 0) row (originAt sources t) ≡ answer
+    → clashOf (getD (sources .assigned) s 0) (getD (sources .assigned) t 0) there (originAt sources t) ≡ answer
+at-row sources s t is found =
+    ap (λ (row : ℕ). clashOf (getD (sources .assigned) s 0) (getD (sources .assigned) t 0) row (originAt sources t)) (sym is) ∙ found
 
 abbrev Inv-loop : tie.InvT-loop
 Inv-loop rows next sources found₀ count s row value t₀ found t =
@@ -33,11 +42,8 @@ abbrev μ-first : tie.MeasureT-first
 first-holds : tie.Need-first-holds Inv-loop μ-loop Inv-first μ-first
 first-holds c = (refl, omega arith, rest-all (c .args .t1) (c .args .rows .now))
 
-mul-row : tie.Need-mul-row Inv-loop μ-loop Inv-first μ-first
-mul-row c = omega arith
-
-element-copy-out-row : tie.Need-element-copy-out-row Inv-loop μ-loop Inv-first μ-first
-element-copy-out-row c = omega arith
+row-requires : tie.Need-row-requires Inv-loop μ-loop Inv-first μ-first
+row-requires c κs = omega (arith, c .before .before .pre .sources)
 
 mul-value : tie.Need-mul-value Inv-loop μ-loop Inv-first μ-first
 mul-value c = omega arith
@@ -111,7 +117,7 @@ loop-again c =
     let inside : t < start .args .t1 .count = omega arith in
     let link = start .pre .next t inside in
     let same = at .loop .inv .3 inside in
-    let clash = sym (c .before .before .clashes .ensures) ∙ c .before .if1 .left in
+    let clash = at-row (start .args .t1) s t (at .before .before .before .row .ensures) (sym (c .before .before .clashes .ensures) ∙ c .before .if1 .left) in
     let next = getD (start .args .next .now) t 0 in (
       at .loop .inv .0,
       omega (arith, link .later),
@@ -146,7 +152,7 @@ returns-2 c =
     let t = at .loop .t in
     let inside : t < start .args .t1 .count = omega arith in
     let same = at .loop .inv .3 inside in
-    let clash = sym (c .before .clashes .ensures) ∙ c .if1 .taken in
+    let clash = at-row (start .args .t1) s t (at .before .before .before .row .ensures) (sym (c .before .clashes .ensures) ∙ c .if1 .taken) in
     sym (at .loop .inv .4 ∙ search-hit (start .args .t1) (start .args .rows .now) s t inside same clash)
 
 pub first-pair-spec : {M : Type 1} → statement M
@@ -158,8 +164,7 @@ first-pair-spec =
     Inv-first
     μ-first
     first-holds
-    mul-row
-    element-copy-out-row
+    row-requires
     mul-value
     element-copy-out-value
     mul-t
