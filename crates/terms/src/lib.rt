@@ -26,9 +26,6 @@ const MAX_BOOLEANS: usize = 64;
 
 const MAX_BYTES: usize = 4096;
 
-// The width of values, in bits.
-const WIDTH: usize = 32;
-
 // The tag of an equality.
 const EQUALITY: u8 = 7;
 
@@ -432,7 +429,7 @@ pub fn load(query: &[u8]) -> Loaded
     }
     let mut at: usize = 0;
     loop {
-        match query::decode(query, at, WIDTH) {
+        match reader::field_at(query, at) {
             Decoded::End => {
                 return Loaded {
                     refusal: 0,

@@ -45,8 +45,8 @@ loop-holds c = (
   c .if1 .left,
 )
 
-decode-requires : tie.Need-decode-requires Inv-loop μ-loop
-decode-requires c κs = search needs
+field-at-requires : tie.Need-field-at-requires Inv-loop μ-loop
+field-at-requires c κs = search needs
 
 enum-told : tie.Need-enum-told Inv-loop μ-loop
 enum-told c = search needs
@@ -57,7 +57,7 @@ returns-2 c = (
       (left-end (now (c .before .before .before .before .before .before .before .before .args .query)) (c .before .before .before .loop .at)
       (queryOf (c .before .before .before .loop .terms) (c .before .before .before .loop .guess))
       (c .before .before .before .loop .inv .1)
-      (sym (c .before .before .decode .ensures) ∙ ap standingOf (c .enum-told .given .1))),
+      (sym (c .before .before .field-at .ensures) ∙ ap standingOf (c .enum-told .given .1))),
   c .before .before .before .loop .inv .0,
 )
 
@@ -71,7 +71,7 @@ returns-3 c = (
       (c .before .before .before .before .loop .inv .1)
       (c .before .refused .given .0 .0 .offset)
       (c .before .refused .given .0 .0 .number)
-      (sym (c .before .before .before .decode .ensures) ∙ ap standingOf (c .before .refused .given .1))
+      (sym (c .before .before .before .field-at .ensures) ∙ ap standingOf (c .before .refused .given .1))
       (queryOf (c .before .before .before .before .loop .terms) (c .before .before .before .before .loop .guess)),
   c .before .before .before .before .loop .inv .0,
 )
@@ -106,7 +106,7 @@ known : (r : tie.After-fault Inv-loop μ-loop)
 known r =
     record {
       head = head r .loop .inv;
-      stands = sym (fielded r .before .before .decode .ensures) ∙ ap standingOf (fielded r .field .given .1);
+      stands = sym (fielded r .before .before .field-at .ensures) ∙ ap standingOf (fielded r .field .given .1);
       row-is = rowed r .to-row .ensures;
       found-is = r .fault .ensures;
     }
@@ -209,7 +209,7 @@ load-spec =
     no-guess-requires
     returns
     loop-holds
-    decode-requires
+    field-at-requires
     enum-told
     returns-2
     enum-known-refused
