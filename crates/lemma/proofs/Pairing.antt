@@ -1,28 +1,42 @@
--- The search for a pair along the links: between a source and the next of its index value there is none to conflict with.
+-- The search for a pair along the links: between a source and the next of its index value there is none to conflict with, and a source that is
+-- like an earlier one conflicts with nothing that the earlier one does not.
 -- Assumes nothing.
-use Prim.Native.Nat.{ℕ, _+_, _-_, _<_, _≤_}
+use Prim.Native.Nat.{ℕ, zero, suc, _+_, _-_, _<_, _≤_}
 use native.Mathlib.Nat.{sub-zero}
+use native.Mathlib.Decide.{ℕ-discrete, decLt}
 use native.Mathlib.Omega.{arith}
-use mathlib.Core.Path.{_≡_, refl, sym, _∙_}
-use mathlib.Core.Bool.{true, false}
-use mathlib.Core.List.{List}
+use mathlib.Core.Path.{_≡_, refl, sym, ap, _∙_, subst}
+use mathlib.Core.Logic.{_⊎_, inl, inr}
+use mathlib.Core.Bool.{Bool, true, false, cond, false≢true}
+use mathlib.Core.List.{List, [], _∷_}
 use mathlib.Core.Option.{Option, none, some}
 use borrow.Author.Tests.{eq-eqb, ne-eqb}
-use lib.ListN.{getD}
+use lib.ListN.{getD, set, replicate, getD-replicate}
+use lib.Seq.{getD-set-other}
 use Rattle.paper.specs.Lists.{orElse, mapOption, find, range}
 use Rattle.terms.specs.declared.Sources.{Sources}
 use Rattle.reach.specs.Reached.{originAt, valueAt, NextOf}
-use Rattle.lemma.specs.Pairs.{Numbers, clashOf, clashIn, pairAmong, pairIn}
+use Rattle.lemma.specs.Pairs.{Numbers, clashOf, alikeOf, clashIn, pairAmong, pairIn}
 use Rattle.lemma.proofs.Ranges.{range-from, range-end, find-skip}
+
+-- a mark that stands where one was put is the one that was put
+mark-put : (clear : List Bool) (i : ℕ) (new : Bool) → getD (set clear i new) i false ≡ true → new ≡ true
+mark-put [] i new is = absurd (false≢true is)
+mark-put (first ∷ clear) zero new is = is
+mark-put (first ∷ clear) (suc i) new is = mark-put clear i new is
 
 module _ (s : Sources) (rows : List ℕ) where
   -- the pairs of the sources from i on
   unfoldable pub restFrom : (i : ℕ) → Option Numbers
   restFrom i = pairAmong (clashIn s rows) (range i (s .count - i))
 
-  -- what is left of the search: source i with those from t on, and then the pairs of the sources after i
-  unfoldable pub searchFrom : (i t : ℕ) → Option Numbers
-  searchFrom i t = orElse (mapOption (λ j. record { first = i; later = j }) (find (clashIn s rows i) (range t (s .count - t)))) (restFrom (i + 1))
+  -- source i conflicts with none of the later sources before t
+  abbrev pub Free : (i t : ℕ) → Type 0
+  Free i t = (j : ℕ) → i < j → j < t → clashIn s rows i j ≡ false
+
+  -- source k has the index value, the value and the row of source i
+  abbrev pub Alike : (i k : ℕ) → Type 0
+  Alike i k = (valueAt s k ≡ valueAt s i) × (getD (s .assigned) k 0 ≡ getD (s .assigned) i 0) × (getD rows k 0 ≡ getD rows i 0)
 
   pub rest-all : pairIn s rows ≡ restFrom 0
   unfolding pairIn restFrom
@@ -32,30 +46,90 @@ module _ (s : Sources) (rows : List ℕ) where
   unfolding restFrom
   rest-end i past = rw (range-end (s .count) i past)
 
-  pub search-end : (i t : ℕ) → s .count ≤ t → searchFrom i t ≡ restFrom (i + 1)
-  unfolding searchFrom
-  search-end i t past = rw (range-end (s .count) t past)
-
   -- the first that conflicts ends the search
-  pub search-hit : (i t : ℕ) → t < s .count → valueAt s t ≡ valueAt s i
-      → clashOf (getD (s .assigned) i 0) (getD (s .assigned) t 0) (getD rows i 0) (originAt s t) ≡ true → searchFrom i t ≡ some (record { first = i; later = t })
-  unfolding searchFrom
-  search-hit i t inside same clash = rw (range-from (s .count) t inside, eq-eqb (valueAt s i) (valueAt s t) (sym same), clash)
+  pub rest-hit : (i t : ℕ) → i < t → t < s .count → Free i t → clashIn s rows i t ≡ true → restFrom i ≡ some (record { first = i; later = t })
+  unfolding restFrom
+  rest-hit i t later inside free clash =
+      rw (range-from (s .count) i (omega arith), find-skip (clashIn s rows i) (s .count) (i + 1) t (omega arith) (omega arith) (λ k above below. free k (omega arith) below), range-from (s .count) t inside, clash)
 
-  -- one that does not is passed over, and so are those of another index value
-  over-link : (i t next : ℕ) → valueAt s t ≡ valueAt s i → NextOf s t next → find (clashIn s rows i) (range (t + 1) (s .count - (t + 1))) ≡ find (clashIn s rows i) (range next (s .count - next))
-  over-link i t next same link =
-      find-skip (clashIn s rows i) (s .count) (t + 1) next (omega (arith, link .later)) (link .within)
-      (λ k above below.
-      let other = ne-eqb (valueAt s i) (valueAt s k) (λ equal. link .between k (omega arith) below (sym equal ∙ sym same)) in
-      rw other)
+  -- a source that conflicts with none is passed over
+  pub rest-free : (i : ℕ) → i < s .count → Free i (s .count) → restFrom i ≡ restFrom (i + 1)
+  unfolding restFrom
+  rest-free i inside free =
+      rw (range-from (s .count) i inside, find-skip (clashIn s rows i) (s .count) (i + 1) (s .count) (omega arith) (omega arith) (λ k above below. free k (omega arith) below), range-end (s .count) (s .count) (omega arith))
 
-  pub search-miss : (i t next : ℕ) → t < s .count → valueAt s t ≡ valueAt s i
-      → clashOf (getD (s .assigned) i 0) (getD (s .assigned) t 0) (getD rows i 0) (originAt s t) ≡ false → NextOf s t next → searchFrom i t ≡ searchFrom i next
-  unfolding searchFrom
-  search-miss i t next inside same clash link =
-      rw (range-from (s .count) t inside, eq-eqb (valueAt s i) (valueAt s t) (sym same), clash, over-link i t next same link)
+  -- at one index value two sources conflict by their values and the row
+  pub clash-at : (i t : ℕ) {answer : Bool} → valueAt s t ≡ valueAt s i
+      → clashOf (getD (s .assigned) i 0) (getD (s .assigned) t 0) (getD rows i 0) (originAt s t) ≡ answer → clashIn s rows i t ≡ answer
+  clash-at i t same is = rw (eq-eqb (valueAt s i) (valueAt s t) (sym same)) is
 
-  pub search-start : (i next : ℕ) → i < s .count → NextOf s i next → restFrom i ≡ searchFrom i next
-  unfolding restFrom searchFrom
-  search-start i next inside link = rw (range-from (s .count) i inside, over-link i i next refl link)
+  -- from one source of the index value to the next there is none to conflict with
+  pub free-link : (i t next : ℕ) → valueAt s t ≡ valueAt s i → NextOf s t next → (j : ℕ) → t < j → j < next → clashIn s rows i j ≡ false
+  free-link i t next same link j above below = rw (ne-eqb (valueAt s i) (valueAt s j) (λ equal. link .between j above below (sym equal ∙ sym same)))
+
+  -- one that does not conflict is passed over, and so are those of another index value
+  pub free-over : (i t next : ℕ) → Free i t → valueAt s t ≡ valueAt s i → clashIn s rows i t ≡ false → NextOf s t next → Free i next
+  free-over i t next free same clash link j above below = go (ℕ-discrete j t)
+    where
+      go : Dec (j ≡ t) → clashIn s rows i j ≡ false
+      go (yes here) = rw here clash
+      go (no other) = side (decLt j t)
+        where
+          side : Dec (j < t) → clashIn s rows i j ≡ false
+          side (yes before) = free j above before
+          side (no past) = free-link i t next same link j (omega (arith, other, past)) below
+
+  pub free-alike : (i k : ℕ) → i < k → Alike i k → Free i (s .count) → Free k (s .count)
+  free-alike i k later alike free j above below = rw (alike .0, alike .1, alike .2) (free j (omega arith) below)
+
+  -- the marks of the sources from i on: each that is marked conflicts with none
+  abbrev pub Cleared : (i : ℕ) → (clear : List Bool) → Type 0
+  Cleared i clear = (k : ℕ) → i ≤ k → k < s .count → getD clear k false ≡ true → Free k (s .count)
+
+  -- while source i is tried: each that is marked conflicts with none, or is like source i
+  abbrev pub Marked : (i : ℕ) → (clear : List Bool) → Type 0
+  Marked i clear = (k : ℕ) → i < k → k < s .count → getD clear k false ≡ true → Free k (s .count) ⊎ Alike i k
+
+  pub cleared-first : (n : ℕ) → s .count ≤ n → Cleared 0 (replicate n false)
+  cleared-first n room k above inside marked = absurd (false≢true (sym (getD-replicate n k false false (omega arith)) ∙ marked))
+
+  pub marked-first : (i : ℕ) (clear : List Bool) → Cleared i clear → Marked i clear
+  marked-first i clear cleared k above inside marked = inl (cleared k (omega arith) inside marked)
+
+  -- once source i is free, so are those that are like it
+  pub cleared-next : (i : ℕ) (clear : List Bool) → Free i (s .count) → Marked i clear → Cleared (i + 1) clear
+  cleared-next i clear free all k above inside marked = go (all k (omega arith) inside marked)
+    where
+      go : Free k (s .count) ⊎ Alike i k → Free k (s .count)
+      go (inl is) = is
+      go (inr alike) = free-alike i k (omega arith) alike free
+
+  -- a mark is put where it was, or where source t is like source i
+  pub marked-put : (i t : ℕ) (clear : List Bool) → i < t → t < s .count → valueAt s t ≡ valueAt s i → Marked i clear
+      → Marked i (set clear t (alikeOf (getD clear t false) (getD (s .assigned) i 0) (getD (s .assigned) t 0) (getD rows i 0) (getD rows t 0)))
+  marked-put i t clear later within same all k above inside marked = go (ℕ-discrete k t)
+    where
+      new : Bool
+      new = alikeOf (getD clear t false) (getD (s .assigned) i 0) (getD (s .assigned) t 0) (getD rows i 0) (getD rows t 0)
+
+      put : (known : Bool) → getD clear t false ≡ known → Dec (getD (s .assigned) i 0 ≡ getD (s .assigned) t 0) → Dec (getD rows i 0 ≡ getD rows t 0)
+          → alikeOf known (getD (s .assigned) i 0) (getD (s .assigned) t 0) (getD rows i 0) (getD rows t 0) ≡ true → Free t (s .count) ⊎ Alike i t
+      put true known values both is = all t later within known
+      put false known (yes values) (yes both) is = inr (same, sym values, sym both)
+      put false known (no values) both is = absurd (false≢true (sym (rw (ne-eqb _ _ values)) ∙ is))
+      put false known (yes values) (no both) is = absurd (false≢true (sym (rw (eq-eqb _ _ values, ne-eqb _ _ both)) ∙ is))
+
+      go : Dec (k ≡ t) → Free k (s .count) ⊎ Alike i k
+      go (yes here) =
+          subst (λ (n : ℕ). Free n (s .count) ⊎ Alike i n) (sym here)
+          (put (getD clear t false) refl (ℕ-discrete _ _) (ℕ-discrete _ _) (mark-put clear t new (ap (λ (n : ℕ). getD (set clear t new) n false) (sym here) ∙ marked)))
+      go (no other) = all k above inside (sym (getD-set-other clear t k new false other) ∙ marked)
+
+  -- where the search of source i begins
+  pub begins : (i next : ℕ) (known : Bool) → i < s .count → (known ≡ true → Free i (s .count)) → NextOf s i next → (t : ℕ) → t ≡ cond known (s .count) next
+      → (i < t) × (t ≤ s .count) × (t < s .count → valueAt s t ≡ valueAt s i) × Free i t
+  begins i next true inside free link t is =
+      (omega arith, omega arith, (λ below. absurd (omega (arith, below, is))), (λ j above below. free refl j above (omega arith)))
+  begins i next false inside free link t is =
+      subst (λ (n : ℕ). (i < n) × (n ≤ s .count) × (n < s .count → valueAt s n ≡ valueAt s i) × Free i n) (sym is)
+      (link .later, link .within, link .same, free-link i i next refl link)

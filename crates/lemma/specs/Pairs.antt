@@ -1,7 +1,7 @@
 -- 01, The lemma, over the code's tables: when two sources conflict, and the pair that is taken.
 -- Assumes nothing.
 use Prim.Native.Nat.{ℕ, _<_, _≤_}
-use mathlib.Core.Bool.{Bool, false, cond}
+use mathlib.Core.Bool.{Bool, true, false, cond}
 use mathlib.Core.List.{List, [], _∷_}
 use mathlib.Core.Option.{Option, none, some}
 use lib.Dec.{eqb}
@@ -20,6 +20,10 @@ pub record Numbers : Type 0 where
 -- one source's value differs from another's, and its row has the other's origin
 abbrev pub clashOf : (one other row origin : ℕ) → Bool
 clashOf one other row origin = cond (eqb one other) false (eqb (bit row origin) 1)
+
+-- a source that was known to conflict with nothing later, or has the value and the row of one that is tried
+abbrev pub alikeOf : (known : Bool) → (one other row others : ℕ) → Bool
+alikeOf known one other row others = cond known true (cond (eqb one other) (eqb row others) false)
 
 -- "Two sources conflict if their index values are equal, their values differ, and the first reaches the origin of the second"
 abbrev pub clashIn : Sources → (rows : List ℕ) → (i j : ℕ) → Bool

@@ -2,8 +2,9 @@
 use crate::Found;
 use terms::Sources;
 ghost use mathlib.Core.Path.{_≡_};
+ghost use mathlib.Core.Bool.{cond};
 ghost use Prim.Native.Nat.{_<_};
-ghost use Rattle.lemma.specs.Pairs.{clashOf, pairIn, foundOf, Linked};
+ghost use Rattle.lemma.specs.Pairs.{clashOf, alikeOf, pairIn, foundOf, Linked};
 
 // "their values differ, and the first reaches the origin of the second"
 fn clashes(one: u64, other: u64, row: u64, origin: u8) -> bool
@@ -16,24 +17,56 @@ fn clashes(one: u64, other: u64, row: u64, origin: u8) -> bool
     (row >> origin) % 2 == 1
 }
 
+// Is a source known to conflict with no later one: was it known, or has it the value and the row of an earlier one that is tried now?
+fn alike(known: bool, one: u64, other: u64, row: u64, others: u64) -> bool
+    ensures { λ r. ⌜ r ≡ alikeOf known one other row others ⌝ }
+{
+    if known {
+        return true;
+    }
+    if one != other {
+        return false;
+    }
+    row == others
+}
+
+// The first source to try: the next one of the index value, or none where it is known that none conflicts.
+fn first_tried(known: bool, next: u16, count: usize) -> usize
+    ensures { λ r. ⌜ r ≡ cond known count next ⌝ }
+{
+    if known {
+        return count;
+    }
+    next as usize
+}
+
 // "the least first source s that stands in a pair with a later one, and with it the least later source t". Only sources of one index
-// value conflict, so the later ones are taken along the links.
+// value conflict, so the later ones are taken along the links. A source with the value and the row of an earlier one that conflicts
+// with none conflicts with none either, and is not tried again.
 pub fn first_pair(sources: Sources, rows: &[u64; 304], next: &[u16; 304]) -> Found
     requires { ⌜ Linked sources (now next) ⌝ }
     ensures { λ r. ⌜ foundOf r ≡ pairIn sources (now (rows .entry)) ⌝ }
 {
     let mut found = Found::Nothing;
+    let mut clear = [false; 304];
     let count = sources.count;
     let mut s = 0;
     'first: while s < count {
         let row = reach::row(rows, s);
         let value = sources.assigned[s];
-        let mut t = next[s] as usize;
+        let mut t = first_tried(clear[s], next[s], count);
         while t < count {
             if clashes(value, sources.assigned[t], row, sources.origin[t]) {
                 found = Found::Pair(s, t);
                 break 'first;
             }
+            clear[t] = alike(
+                clear[t],
+                value,
+                sources.assigned[t],
+                row,
+                reach::row(rows, t),
+            );
             t = next[t] as usize;
         }
         s += 1;

@@ -1,16 +1,18 @@
--- `lemma::pairs::first_pair` meets its contract. The invariants say what is left to do: the pair asked for is that of the sources from s on, and
--- inside, that of s with the sources from t on, or else that of the sources after s. A link skips only sources of another index value.
+-- `lemma::pairs::first_pair` meets its contract. The invariants say what is left to do: the pair asked for is that of the sources from s on, and s
+-- conflicts with none of those before t. A link skips only sources of another index value. A source that is marked conflicts with none, or
+-- is like s, which is the same once s has been tried.
 -- Assumes nothing.
 use Prim.Native.Nat.{ℕ, _-_, _<_, _≤_}
 use native.Mathlib.Omega.{arith}
-use mathlib.Core.Path.{_≡_, refl, sym, ap, _∙_}
-use mathlib.Core.Bool.{Bool}
-use lib.ListN.{getD}
+use borrow.Author.Needs.{needs}
+use mathlib.Core.Path.{_≡_, refl, sym, ap, ap₂, _∙_, subst}
+use mathlib.Core.Bool.{Bool, false}
+use lib.ListN.{getD, set}
 use Rattle.terms.specs.declared.Sources.{Sources}
 use Rattle.reach.specs.Reached.{originAt, valueAt}
 use Rattle.lemma.specs.declared.Found.{Found}
-use Rattle.lemma.specs.Pairs.{clashOf, pairIn, foundOf}
-use Rattle.lemma.proofs.Pairing.{restFrom, searchFrom, rest-all, rest-end, search-end, search-hit, search-miss, search-start}
+use Rattle.lemma.specs.Pairs.{clashOf, alikeOf, pairIn, foundOf}
+use Rattle.lemma.proofs.Pairing.{restFrom, Free, Cleared, Marked, rest-all, rest-end, rest-hit, rest-free, clash-at, free-over, cleared-first, marked-first, cleared-next, marked-put, begins}
 use Rattle.lemma.proofs.pairs.first_pair.Statement.{statement}
 use Rattle.lemma.proofs.pairs.first_pair.Tie as tie
 
@@ -21,26 +23,31 @@ at-row : (sources : Sources) (s t : ℕ) {row there : ℕ} {answer : Bool} → r
 at-row sources s t is found =
     ap (λ (row : ℕ). clashOf (getD (sources .assigned) s 0) (getD (sources .assigned) t 0) row (originAt sources t)) (sym is) ∙ found
 
+like : (sources : Sources) (s t : ℕ) (known : Bool) {row others at-s at-t : ℕ} → row ≡ at-s → others ≡ at-t
+    → alikeOf known (getD (sources .assigned) s 0) (getD (sources .assigned) t 0) row others ≡ alikeOf known (getD (sources .assigned) s 0) (getD (sources .assigned) t 0) at-s at-t
+like sources s t known row-is others-is = ap₂ (alikeOf known (getD (sources .assigned) s 0) (getD (sources .assigned) t 0)) row-is others-is
+
 abbrev Inv-loop : tie.InvT-loop
-Inv-loop rows next sources found₀ count s row value t₀ found t =
+Inv-loop rows next sources found₀ clear₀ count s row value t₀ found clear t =
     (found ≡ Found.Nothing)
     × (s < t)
     × (t ≤ sources .count)
     × (t < sources .count → valueAt sources t ≡ valueAt sources s)
-    × (pairIn sources rows ≡ searchFrom sources rows s t)
+    × Free sources rows s t
+    × Marked sources rows s clear
 
 abbrev μ-loop : tie.MeasureT-loop
-μ-loop rows next sources found₀ count s row value t₀ found t = sources .count - t
+μ-loop rows next sources found₀ clear₀ count s row value t₀ found clear t = sources .count - t
 
 abbrev Inv-first : tie.InvT-first
-Inv-first rows next sources found₀ count s₀ found s =
-    (found ≡ Found.Nothing) × (s ≤ sources .count) × (pairIn sources rows ≡ restFrom sources rows s)
+Inv-first rows next sources found₀ clear₀ count s₀ found clear s =
+    (found ≡ Found.Nothing) × (s ≤ sources .count) × (pairIn sources rows ≡ restFrom sources rows s) × Cleared sources rows s clear
 
 abbrev μ-first : tie.MeasureT-first
-μ-first rows next sources found₀ count s₀ found s = sources .count - s
+μ-first rows next sources found₀ clear₀ count s₀ found clear s = sources .count - s
 
 first-holds : tie.Need-first-holds Inv-loop μ-loop Inv-first μ-first
-first-holds c = (refl, omega arith, rest-all (c .args .t1) (c .args .rows .now))
+first-holds c = (refl, omega arith, rest-all (c .args .t1) (c .args .rows .now), cleared-first (c .args .t1) (c .args .rows .now) 304 (c .pre .sources))
 
 row-requires : tie.Need-row-requires Inv-loop μ-loop Inv-first μ-first
 row-requires c κs = omega (arith, c .before .before .pre .sources)
@@ -51,28 +58,29 @@ mul-value c = omega arith
 element-copy-out-value : tie.Need-element-copy-out-value Inv-loop μ-loop Inv-first μ-first
 element-copy-out-value c = omega arith
 
-mul-t : tie.Need-mul-t Inv-loop μ-loop Inv-first μ-first
-mul-t c = omega arith
+array-read-first-tried : tie.Need-array-read-first-tried Inv-loop μ-loop Inv-first μ-first
+array-read-first-tried c = omega arith
 
-element-copy-out-t : tie.Need-element-copy-out-t Inv-loop μ-loop Inv-first μ-first
-element-copy-out-t c = omega arith
+mul-first-tried : tie.Need-mul-first-tried Inv-loop μ-loop Inv-first μ-first
+mul-first-tried c = omega arith
 
-cast-t : tie.Need-cast-t Inv-loop μ-loop Inv-first μ-first
-cast-t c =
-    let at = c .before .before .before .before in
-    let start = at .before in
-    omega (arith, start .pre .next (at .first .s) (omega arith) .within)
+element-copy-out-first-tried : tie.Need-element-copy-out-first-tried Inv-loop μ-loop Inv-first μ-first
+element-copy-out-first-tried c = omega arith
+
+first-tried-requires : tie.Need-first-tried-requires Inv-loop μ-loop Inv-first μ-first
+first-tried-requires c κs = search needs
 
 loop-holds : tie.Need-loop-holds Inv-loop μ-loop Inv-first μ-first
 loop-holds c =
-    let at = c .before .before .before .before in
+    let at = c .before .before .before .before .before in
     let start = at .before in
     let s = at .first .s in
-    let link = start .pre .next s (omega arith) in
     let sources = start .args .t1 in
     let rows = start .args .rows .now in
-    let next = getD (start .args .next .now) s 0 in
-    (at .first .inv .0, link .later, link .within, link .same, at .first .inv .2 ∙ search-start sources rows s next (omega arith) link)
+    let inside : s < sources .count = omega arith in
+    let cleared = at .first .inv .3 in
+    let begun = begins sources rows s (getD (start .args .next .now) s 0) (getD (at .first .clear) s false) inside (cleared s (omega arith) inside) (start .pre .next s inside) (c .first-tried .result) (c .first-tried .ensures) in
+    (at .first .inv .0, begun .0, begun .1, begun .2, begun .3, marked-first sources rows s (at .first .clear) cleared)
 
 mul-clashes : tie.Need-mul-clashes Inv-loop μ-loop Inv-first μ-first
 mul-clashes c = omega arith
@@ -86,44 +94,68 @@ element-copy-out-clashes-2 c = omega arith
 clashes-requires : tie.Need-clashes-requires Inv-loop μ-loop Inv-first μ-first
 clashes-requires c κs =
     let at = c .before .before .before in
-    let start = at .before .before .before .before .before .before in
+    let start = at .before .before .before .before .before .before .before in
     start .pre .origin (at .loop .t) (omega arith)
 
-mul-t-2 : tie.Need-mul-t-2 Inv-loop μ-loop Inv-first μ-first
-mul-t-2 c = omega arith
+array-read-alike : tie.Need-array-read-alike Inv-loop μ-loop Inv-first μ-first
+array-read-alike c = omega arith
 
-element-copy-out-t-2 : tie.Need-element-copy-out-t-2 Inv-loop μ-loop Inv-first μ-first
-element-copy-out-t-2 c = omega arith
+mul-alike : tie.Need-mul-alike Inv-loop μ-loop Inv-first μ-first
+mul-alike c = omega arith
 
-cast-t-2 : tie.Need-cast-t-2 Inv-loop μ-loop Inv-first μ-first
-cast-t-2 c =
-    let at = c .before .before .before .before .before .before in
-    let start = at .before .before .before .before .before .before in
+element-copy-out-alike : tie.Need-element-copy-out-alike Inv-loop μ-loop Inv-first μ-first
+element-copy-out-alike c = omega arith
+
+row-requires-2 : tie.Need-row-requires-2 Inv-loop μ-loop Inv-first μ-first
+row-requires-2 c κs = omega (arith, c .before .before .before .before .before .before .before .before .before .before .before .before .before .pre .sources)
+
+alike-requires : tie.Need-alike-requires Inv-loop μ-loop Inv-first μ-first
+alike-requires c κs = search needs
+
+array-write-clear : tie.Need-array-write-clear Inv-loop μ-loop Inv-first μ-first
+array-write-clear c = omega arith
+
+mul-t : tie.Need-mul-t Inv-loop μ-loop Inv-first μ-first
+mul-t c = omega arith
+
+element-copy-out-t : tie.Need-element-copy-out-t Inv-loop μ-loop Inv-first μ-first
+element-copy-out-t c = omega arith
+
+cast-t : tie.Need-cast-t Inv-loop μ-loop Inv-first μ-first
+cast-t c =
+    let at = c .before .before .before .before .before .before .before .before .before in
+    let start = at .before .before .before .before .before .before .before in
     omega (arith, start .pre .sources, start .pre .next (at .loop .t) (omega arith) .within)
 
 loop-less : tie.Need-loop-less Inv-loop μ-loop Inv-first μ-first
 loop-less c =
-    let at = c .before .before .before .before .before .before in
-    let start = at .before .before .before .before .before .before in
+    let at = c .before .before .before .before .before .before .before .before .before in
+    let start = at .before .before .before .before .before .before .before in
     let link = start .pre .next (at .loop .t) (omega arith) in
     omega (arith, link .later, link .within)
 
 loop-again : tie.Need-loop-again Inv-loop μ-loop Inv-first μ-first
 loop-again c =
-    let at = c .before .before .before .before .before .before in
-    let start = at .before .before .before .before .before .before in
-    let s = at .before .before .before .before .before .first .s in
+    let at = c .before .before .before .before .before .before .before .before .before in
+    let start = at .before .before .before .before .before .before .before in
+    let s = at .before .before .before .before .before .before .first .s in
     let t = at .loop .t in
-    let inside : t < start .args .t1 .count = omega arith in
+    let sources = start .args .t1 in
+    let rows = start .args .rows .now in
+    let clear = at .loop .clear in
+    let inside : t < sources .count = omega arith in
     let link = start .pre .next t inside in
     let same = at .loop .inv .3 inside in
-    let clash = at-row (start .args .t1) s t (at .before .before .before .row .ensures) (sym (c .before .before .clashes .ensures) ∙ c .before .if1 .left) in
+    let row-is = at .before .before .before .before .row .ensures in
+    let clash = clash-at sources rows s t same (at-row sources s t row-is (sym (c .before .before .before .before .before .clashes .ensures) ∙ c .before .before .before .before .if1 .left)) in
+    let put = c .before .alike .ensures ∙ like sources s t (getD clear t false) row-is (c .before .before .row2 .ensures) in
     let next = getD (start .args .next .now) t 0 in (
       at .loop .inv .0,
       omega (arith, link .later),
       link .within,
       (λ further. link .same further ∙ same),
-      at .loop .inv .4 ∙ search-miss (start .args .t1) (start .args .rows .now) s t next inside same clash link,
+      free-over sources rows s t next (at .loop .inv .4) same clash link,
+      subst (λ (new : Bool). Marked sources rows s (set clear t new)) (sym put) (marked-put sources rows s t clear (at .loop .inv .1) inside same (at .loop .inv .5)),
     )
 
 add-s : tie.Need-add-s Inv-loop μ-loop Inv-first μ-first
@@ -135,9 +167,16 @@ first-less c = omega arith
 first-again : tie.Need-first-again Inv-loop μ-loop Inv-first μ-first
 first-again c =
     let at = c .before in
-    let start = at .before .before .before .before .before .before in
-    let s = at .before .before .before .before .before .first .s in
-    (at .loop .inv .0, omega arith, at .loop .inv .4 ∙ search-end (start .args .t1) (start .args .rows .now) s (at .loop .t) (omega arith))
+    let start = at .before .before .before .before .before .before .before in
+    let s = at .before .before .before .before .before .before .first .s in
+    let sources = start .args .t1 in
+    let rows = start .args .rows .now in
+    let free : Free sources rows s (sources .count) = λ j above below. at .loop .inv .4 j above (omega arith) in (
+      at .loop .inv .0,
+      omega arith,
+      at .before .before .before .before .before .before .first .inv .2 ∙ rest-free sources rows s (omega arith) free,
+      cleared-next sources rows s (at .loop .clear) free (at .loop .inv .5),
+    )
 
 returns : tie.Need-returns Inv-loop μ-loop Inv-first μ-first
 returns c =
@@ -147,13 +186,14 @@ returns c =
 returns-2 : tie.Need-returns-2 Inv-loop μ-loop Inv-first μ-first
 returns-2 c =
     let at = c .before .before .before .before .before in
-    let start = at .before .before .before .before .before .before in
-    let s = at .before .before .before .before .before .first .s in
+    let start = at .before .before .before .before .before .before .before in
+    let s = at .before .before .before .before .before .before .first .s in
     let t = at .loop .t in
-    let inside : t < start .args .t1 .count = omega arith in
-    let same = at .loop .inv .3 inside in
-    let clash = at-row (start .args .t1) s t (at .before .before .before .row .ensures) (sym (c .before .clashes .ensures) ∙ c .if1 .taken) in
-    sym (at .loop .inv .4 ∙ search-hit (start .args .t1) (start .args .rows .now) s t inside same clash)
+    let sources = start .args .t1 in
+    let rows = start .args .rows .now in
+    let inside : t < sources .count = omega arith in
+    let clash = clash-at sources rows s t (at .loop .inv .3 inside) (at-row sources s t (at .before .before .before .before .row .ensures) (sym (c .before .clashes .ensures) ∙ c .if1 .taken)) in
+    sym (at .before .before .before .before .before .before .first .inv .2 ∙ rest-hit sources rows s t (at .loop .inv .1) inside (at .loop .inv .4) clash)
 
 pub first-pair-spec : {M : Type 1} → statement M
 first-pair-spec =
@@ -167,17 +207,24 @@ first-pair-spec =
     row-requires
     mul-value
     element-copy-out-value
-    mul-t
-    element-copy-out-t
-    cast-t
+    array-read-first-tried
+    mul-first-tried
+    element-copy-out-first-tried
+    first-tried-requires
     loop-holds
     mul-clashes
     element-copy-out-clashes
     element-copy-out-clashes-2
     clashes-requires
-    mul-t-2
-    element-copy-out-t-2
-    cast-t-2
+    array-read-alike
+    mul-alike
+    element-copy-out-alike
+    row-requires-2
+    alike-requires
+    array-write-clear
+    mul-t
+    element-copy-out-t
+    cast-t
     loop-less
     loop-again
     add-s
