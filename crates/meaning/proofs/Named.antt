@@ -188,27 +188,3 @@ pub named-complete : (w : ℕ) (literals : List Literal) (β : Truths) → lemma
 named-complete w literals β holds =
     let whole = gadgets-completable w 0 literals β holds in
     (whole .0, λ γ same on. named-hold w literals γ .1 (whole .1 γ same (λ m h. on m)))
-
--- truths with others for the fresh variables
-abbrev pub withFresh : Truths → (ℕ → Bool) → Truths
-withFresh β truths (bit b k) = β (bit b k)
-withFresh β truths (boolean m) = β (boolean m)
-withFresh β truths (fresh n) = truths n
-
--- they are the same at what a literal names
-fresh-apart : (w : ℕ) (β : Truths) (truths : ℕ → Bool) (l : Literal) → SameAt w β (withFresh β truths) l
-fresh-apart w β truths (Literal.equal i j) = (λ k h. refl, λ k h. refl)
-fresh-apart w β truths (Literal.differ i j) = (λ k h. refl, λ k h. refl)
-fresh-apart w β truths (Literal.isTrue m) = refl
-fresh-apart w β truths (Literal.isFalse m) = refl
-fresh-apart w β truths (Literal.conclusion v u) = (λ k h. refl, λ k h. refl)
-
--- at given truths for bits and Booleans the named clauses can hold exactly if the lemma holds
-pub named-say-lemma : (w : ℕ) (literals : List Literal) (β : Truths)
-    → ((truths : ℕ → Bool) × (all (clauseSays (withFresh β truths)) (namedClauses w literals) ≡ true)) ↔ (lemmaHolds (valuesOf w β) literals ≡ true)
-named-say-lemma w literals β = (
-  λ given. named-sound w literals (withFresh β (given .0)) (given .1),
-  λ holds.
-      let done = named-complete w literals β holds in
-      (done .0, done .1 (withFresh β (done .0)) (λ l here. fresh-apart w β (done .0) l) (λ m. refl)),
-)

@@ -1,8 +1,8 @@
--- `terms::past3` meets its contract: as of two, with one test before them.
+-- `terms::refuse::past3` meets its contract: as of two, with one test before them.
 -- Assumes nothing.
 use borrow.Author.Needs.{needs}
-use Rattle.terms.proofs.past3.Statement.{statement}
-use Rattle.terms.proofs.past3.Tie as tie
+use Rattle.terms.proofs.refuse.past3.Statement.{statement}
+use Rattle.terms.proofs.refuse.past3.Tie as tie
 
 past-requires : tie.Need-past-requires
 past-requires c κs = search needs

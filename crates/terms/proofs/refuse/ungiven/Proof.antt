@@ -1,10 +1,10 @@
--- `terms::ungiven` meets its contract: by the kind of the field, each number that it names is tested against the count of its series.
+-- `terms::refuse::ungiven` meets its contract: by the kind of the field, each number that it names is tested against the count of its series.
 -- Assumes nothing.
 use mathlib.Core.Path.{ap₂, _∙_}
 use mathlib.Core.Bool.{_||_}
 use borrow.Author.Needs.{needs}
-use Rattle.terms.proofs.ungiven.Statement.{statement}
-use Rattle.terms.proofs.ungiven.Tie as tie
+use Rattle.terms.proofs.refuse.ungiven.Statement.{statement}
+use Rattle.terms.proofs.refuse.ungiven.Tie as tie
 
 enum-told : tie.Need-enum-told
 enum-told c = search needs

@@ -1,8 +1,8 @@
--- `terms::full` meets its contract: each part is what its function ensures.
+-- `terms::refuse::full` meets its contract: each part is what its function ensures.
 -- Assumes nothing.
 use borrow.Author.Needs.{needs}
-use Rattle.terms.proofs.full.Statement.{statement}
-use Rattle.terms.proofs.full.Tie as tie
+use Rattle.terms.proofs.refuse.full.Statement.{statement}
+use Rattle.terms.proofs.refuse.full.Tie as tie
 
 reached-requires : tie.Need-reached-requires
 reached-requires c κs = search needs

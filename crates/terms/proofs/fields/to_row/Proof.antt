@@ -1,9 +1,9 @@
--- `terms::to_row` meets its contract: by the kind of the field.
+-- `terms::fields::to_row` meets its contract: by the kind of the field.
 -- Assumes nothing.
 use mathlib.Core.Path.{_∙_}
 use borrow.Author.Needs.{needs}
-use Rattle.terms.proofs.to_row.Statement.{statement}
-use Rattle.terms.proofs.to_row.Tie as tie
+use Rattle.terms.proofs.fields.to_row.Statement.{statement}
+use Rattle.terms.proofs.fields.to_row.Tie as tie
 
 enum-known-field : tie.Need-enum-known-field
 enum-known-field c = search needs

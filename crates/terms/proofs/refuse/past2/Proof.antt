@@ -1,9 +1,9 @@
--- `terms::past2` meets its contract: two tests, one after the other, are any of them.
+-- `terms::refuse::past2` meets its contract: two tests, one after the other, are any of them.
 -- Assumes nothing.
 use Rattle.terms.proofs.Bools.{or-false}
 use borrow.Author.Needs.{needs}
-use Rattle.terms.proofs.past2.Statement.{statement}
-use Rattle.terms.proofs.past2.Tie as tie
+use Rattle.terms.proofs.refuse.past2.Statement.{statement}
+use Rattle.terms.proofs.refuse.past2.Tie as tie
 
 past-requires : tie.Need-past-requires
 past-requires c κs = search needs

@@ -1,8 +1,8 @@
--- `terms::fault` meets its contract: the chain of choices is that of the definition, test by test.
+-- `terms::refuse::fault` meets its contract: the chain of choices is that of the definition, test by test.
 -- Assumes nothing.
 use borrow.Author.Needs.{needs}
-use Rattle.terms.proofs.fault.Statement.{statement}
-use Rattle.terms.proofs.fault.Tie as tie
+use Rattle.terms.proofs.refuse.fault.Statement.{statement}
+use Rattle.terms.proofs.refuse.fault.Tie as tie
 
 full-requires : tie.Need-full-requires
 full-requires c κs = search needs

@@ -1,8 +1,8 @@
--- `terms::base_row` meets its contract: each part is what its function ensures.
+-- `terms::fields::base_row` meets its contract: each part is what its function ensures.
 -- Assumes nothing.
 use borrow.Author.Needs.{needs}
-use Rattle.terms.proofs.base_row.Statement.{statement}
-use Rattle.terms.proofs.base_row.Tie as tie
+use Rattle.terms.proofs.fields.base_row.Statement.{statement}
+use Rattle.terms.proofs.fields.base_row.Tie as tie
 
 low-requires : tie.Need-low-requires
 low-requires c κs = search needs

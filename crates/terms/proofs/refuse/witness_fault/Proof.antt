@@ -1,8 +1,8 @@
--- `terms::witness_fault` meets its contract: each test and choice is what its function ensures.
+-- `terms::refuse::witness_fault` meets its contract: each test and choice is what its function ensures.
 -- Assumes nothing.
 use borrow.Author.Needs.{needs}
-use Rattle.terms.proofs.witness_fault.Statement.{statement}
-use Rattle.terms.proofs.witness_fault.Tie as tie
+use Rattle.terms.proofs.refuse.witness_fault.Statement.{statement}
+use Rattle.terms.proofs.refuse.witness_fault.Tie as tie
 
 cast-left : tie.Need-cast-left
 cast-left c = search needs
