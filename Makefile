@@ -1,5 +1,6 @@
 # make run: the main job on known queries. make test: every proof and every test. make bench: the time of each call.
-.PHONY: run test bench soak
+# make soak and make confirm: as many random queries as you like, against the second program and against solvers of others.
+.PHONY: run test bench soak confirm
 
 run:
 	@examples/run
@@ -7,11 +8,19 @@ run:
 test:
 	@tests/run
 
-bench:
-	@rt check repeat
-	@tests/bench
+# the archive that C and Rust link, made again where a source is newer
+archive = target/lib/libzunidelo.a
+$(archive): crates.txt $(shell find crates -name '*.rt')
+	@tests/library && touch $@
 
-# the product against the second program, SEEDS="5 6 7" COUNT=10000 or as asked
-soak:
+bench: $(archive)
+	@cd rust && cargo build --release --offline --quiet -p bench && target/release/bench
+
+# the product against the second program, SEEDS="5 6 7" COUNT=10000 FIELDS=7 or as asked
+soak: $(archive)
 	@rt check answers
 	@tests/second
+
+# lemmas, clauses and models confirmed by z3 and cadical, SEEDS="5 6 7" COUNT=2000 or as asked
+confirm: $(archive)
+	@SEEDS="$${SEEDS:-1 2 3 4}" COUNT="$${COUNT:-2000}" tests/confirm

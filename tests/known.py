@@ -1,7 +1,7 @@
 #!/usr/bin/env python3
 """Makes the known queries of 01 (K1 to K12) and a few at its bounds, with what the three programs print on each.
 
-  tests/known.py           write tests/known/, and what the programs' crates are run on
+  tests/known.py           write tests/known/, examples/, and what the programs' crates are run on
   tests/known.py --check   exit 1 where what stands there is something else
 
 The verdict lines are typed from 01; those of the queries at the bounds follow from how they are made, as is said beside them. The
@@ -11,6 +11,8 @@ clauses are made from the literals by 01's rule, written once more here. Nothing
   NAME.verdict      what the verdict program prints
   NAME.clauses      what the clause program prints
   NAME.lookup-A-I   what the lookup program prints for array A and index I
+
+In examples/ the queries stand as bytes, NAME.query, and its README has a line on each.
 """
 import os
 import sys
@@ -21,6 +23,7 @@ from fields import base, boolean, conditional, equality, variable
 HERE = os.path.dirname(os.path.abspath(__file__))
 KNOWN = os.path.join(HERE, "known")
 CRATES = os.path.join(HERE, "..", "crates")
+EXAMPLES = os.path.join(HERE, "..", "examples")
 
 
 def write(value, index, beneath):
@@ -166,10 +169,25 @@ RUNS = {
     "clauses/stdout": made["K6.clauses"],
 }
 
+QUERIES = {name.replace(".hex", ".query"): bytes.fromhex(content.decode()) for name, content in made.items() if name.endswith(".hex")}
+
+
+def check_examples():
+    """No example but these, and each with its line in the README."""
+    strays = {name for name in os.listdir(EXAMPLES) if name.endswith(".query")} - set(QUERIES)
+    if strays:
+        sys.exit(f"tests/known.py makes no {min(strays)}")
+    with open(os.path.join(EXAMPLES, "README.md")) as file:
+        lines = file.read()
+    for name in QUERIES:
+        if f"| `{name}` |" not in lines:
+            sys.exit(f"examples/README.md has no line on {name}")
+
 
 def main():
     files = {os.path.join(KNOWN, name): content for name, content in made.items()}
     files.update({os.path.join(CRATES, name): content for name, content in RUNS.items()})
+    files.update({os.path.join(EXAMPLES, name): content for name, content in QUERIES.items()})
     if sys.argv[1:] == ["--check"]:
         for path, content in files.items():
             with open(path, "rb") as file:
@@ -178,6 +196,7 @@ def main():
         strays = set(os.listdir(KNOWN)) - set(made)
         if strays:
             sys.exit(f"tests/known.py makes no {min(strays)}")
+        check_examples()
     else:
         for path, content in files.items():
             os.makedirs(os.path.dirname(path), exist_ok=True)

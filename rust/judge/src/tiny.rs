@@ -38,7 +38,7 @@ fn settle(
     wrong: usize,
 ) {
     let bits = free_bits(&[*field], width);
-    terms.extend(field, (random.next() & ((1 << bits) - 1)) as u32);
+    terms.extend(field, (random.number() & ((1 << bits) - 1)) as u32);
     let disturbed = random.chance(wrong);
     match field {
         Field::Base { value } | Field::Read { value, .. } => {

@@ -3,7 +3,8 @@
 use std::path::PathBuf;
 
 pub const USAGE: &str = "tester [--seed N] [--count N] [--cases DIRECTORY] [--wide-index] \
-                         [--selftest | --serve | --product COMMAND ARGUMENT...]";
+                         [--selftest | --serve | --exhaustive FIELDS | --library | \
+                         --product COMMAND ARGUMENT...]";
 
 #[derive(Debug)]
 pub struct Arguments {
@@ -15,6 +16,10 @@ pub struct Arguments {
     pub selftest: bool,
     /// Whether to be a child that answers by the second program.
     pub serve: bool,
+    /// Whether to ask the library that is linked in.
+    pub library: bool,
+    /// Ask the library about all queries of at most so many fields.
+    pub exhaustive: Option<usize>,
     pub product: Vec<String>,
 }
 
@@ -26,6 +31,8 @@ pub fn parse(mut words: impl Iterator<Item = String>) -> Result<Arguments, Strin
         wide_index: false,
         selftest: false,
         serve: false,
+        library: false,
+        exhaustive: None,
         product: Vec::new(),
     };
     while let Some(word) = words.next() {
@@ -36,6 +43,8 @@ pub fn parse(mut words: impl Iterator<Item = String>) -> Result<Arguments, Strin
             "--wide-index" => arguments.wide_index = true,
             "--selftest" => arguments.selftest = true,
             "--serve" => arguments.serve = true,
+            "--library" => arguments.library = true,
+            "--exhaustive" => arguments.exhaustive = Some(number(words.next())? as usize),
             "--product" => arguments.product = words.by_ref().collect(),
             _ => return Err(USAGE.to_string()),
         }

@@ -53,7 +53,7 @@ pub enum Links {
 /// between two reads at equal indices of different terms.
 pub fn longest_lemma(random: &mut Random, links: Links) -> Vec<u8> {
     let mut builder = Builder::default();
-    let index_value = random.next() as u32 | 1;
+    let index_value = random.number() as u32 | 1;
     let (one, other) = (builder.base(index_value), builder.base(index_value));
     let witness_index = builder.base(index_value ^ 1);
     builder.variable(Memory::all(0));
@@ -83,7 +83,7 @@ fn link(
     match kind {
         0 => {
             // Even, so that it differs from the index value, which is odd.
-            let index = builder.base((random.next() as u32) & !1);
+            let index = builder.base((random.number() as u32) & !1);
             assert!(builder.values[usize::from(index)] != index_value);
             builder.write(beneath, index, index);
         }

@@ -14,7 +14,7 @@ pub struct Reading {
     pub index: u16,
 }
 
-#[derive(Default)]
+#[derive(Clone, Default)]
 pub struct Builder {
     pub fields: Vec<Field>,
     /// Each base term's value in the interpretation, and as assigned.

@@ -1,7 +1,6 @@
 //! Asks the product and the second program the same, and finds where their
 //! answers differ.
 
-use crate::expected::expected;
 use crate::product::Product;
 use crate::request::Request;
 
@@ -17,7 +16,7 @@ pub fn differences(product: &mut dyn Product, requests: &[Request]) -> Vec<Diffe
     let answers = product.answers(requests);
     let mut found = Vec::new();
     for (request, answered) in requests.iter().zip(answers) {
-        let expected = expected(request);
+        let expected = product.expected(request);
         if expected != answered {
             found.push(Difference { request: request.clone(), expected, answered });
         }

@@ -3,11 +3,11 @@
 use crate::request::{hex, Question, Request};
 use second::{Checked, Refusal};
 
-/// What the child fills each byte of an answer buffer with before a check.
-const BUFFER_FILL: u8 = 0xAA;
+/// What each byte of an answer buffer is filled with before a check.
+pub const BUFFER_FILL: u8 = 0xAA;
 
-/// What the child fills each number of a run with before the clauses.
-const RUN_FILL: i32 = -7;
+/// What each number of a run is filled with before the clauses.
+pub const RUN_FILL: i32 = -7;
 
 /// All lines of the answer, without the closing line.
 pub fn expected(request: &Request) -> String {
@@ -16,39 +16,53 @@ pub fn expected(request: &Request) -> String {
         Question::Check { room } => check_lines(&request.query, usize::from(room)),
         Question::Lookup { array, index } => match second::lookup(&request.query, array, index) {
             Ok(value) => format!("{value}\n"),
-            Err(refusal) => refusal_line(refusal),
+            Err(refusal) => told(refusal),
         },
         Question::Clauses { room } => clauses_lines(&request.query, usize::from(room)),
     }
 }
 
-fn refusal_line(refusal: Refusal) -> String {
-    format!("refused {} {}\n", refusal.number, refusal.offset)
+fn told(refusal: Refusal) -> String {
+    refusal_line(refusal.number, refusal.offset)
+}
+
+pub fn refusal_line(number: u8, offset: usize) -> String {
+    format!("refused {number} {offset}\n")
+}
+
+/// The whole buffer as the line that an answer closes with.
+pub fn buffer_line(buffer: &[u8]) -> String {
+    format!("{}\n", hex(buffer))
+}
+
+/// The whole run as the line that an answer closes with.
+pub fn run_line(run: &[i32]) -> String {
+    let numbers: Vec<String> = run.iter().map(i32::to_string).collect();
+    format!("{}\n", numbers.join(" "))
 }
 
 fn check_lines(query: &[u8], room: usize) -> String {
     let mut buffer = vec![BUFFER_FILL; room];
     let line = match second::check(query, room) {
-        Checked::Refused(refusal) => refusal_line(refusal),
+        Checked::Refused(refusal) => told(refusal),
         Checked::Consistent { pairs } => format!("consistent {pairs}\n"),
         Checked::Conflict { pairs, lemma } => {
             buffer[..lemma.len()].copy_from_slice(&lemma);
             format!("conflict {pairs} {}\n", lemma.len())
         }
     };
-    format!("{line}{}\n", hex(&buffer))
+    line + &buffer_line(&buffer)
 }
 
 fn clauses_lines(query: &[u8], room: usize) -> String {
     let mut run = vec![RUN_FILL; room];
     let line = match second::clauses(query, room) {
-        Err(refusal) => refusal_line(refusal),
+        Err(refusal) => told(refusal),
         Ok(written) => {
             let count = written.numbers.len();
             run[..count].copy_from_slice(&written.numbers);
             format!("{} {} {count}\n", written.variables, written.clauses)
         }
     };
-    let numbers: Vec<String> = run.iter().map(i32::to_string).collect();
-    format!("{line}{}\n", numbers.join(" "))
+    line + &run_line(&run)
 }

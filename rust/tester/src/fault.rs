@@ -1,4 +1,4 @@
-//! Faults injected into a copy of the second program, to show that the tester
+//! Faults injected into what a right product answers, to show that the tester
 //! finds and shrinks them. Each is named by what goes wrong.
 
 use crate::expected::expected;
@@ -45,20 +45,37 @@ pub const FAULTS: [Fault; 10] = [
     Fault::EmptyCellFilled,
 ];
 
-pub struct FaultyProduct {
-    pub fault: Fault,
-}
+/// The second program as a product.
+pub struct Reference;
 
-impl Product for FaultyProduct {
+impl Product for Reference {
     fn answers(&mut self, requests: &[Request]) -> Vec<String> {
-        requests.iter().map(|request| self.answer(request)).collect()
+        requests.iter().map(expected).collect()
     }
 }
 
-impl FaultyProduct {
-    fn answer(&self, request: &Request) -> String {
-        let mistaken = Request { query: self.mistake(&request.query), ..request.clone() };
-        self.disturb(request, expected(&mistaken))
+pub struct FaultyProduct<'a> {
+    pub fault: Fault,
+    pub right: &'a mut dyn Product,
+}
+
+impl Product for FaultyProduct<'_> {
+    fn answers(&mut self, requests: &[Request]) -> Vec<String> {
+        let mistaken: Vec<Request> =
+            requests.iter().map(|request| self.mistaken(request)).collect();
+        let answers = self.right.answers(&mistaken);
+        let disturbed = |(request, answer)| self.disturb(request, answer);
+        requests.iter().zip(answers).map(disturbed).collect()
+    }
+
+    fn expected(&self, request: &Request) -> String {
+        self.right.expected(request)
+    }
+}
+
+impl FaultyProduct<'_> {
+    fn mistaken(&self, request: &Request) -> Request {
+        Request { query: self.mistake(&request.query), ..request.clone() }
     }
 
     /// The query as the faulty copy takes it.

@@ -1,38 +1,20 @@
 //! The seeded tester: compares the product with the second program on random,
-//! constructed and damaged queries, over pipes to a child process.
+//! constructed and damaged queries, over pipes to a child process or in the
+//! library that is linked in.
 
-mod arguments;
-mod bounds;
-mod builder;
-mod cases;
-mod compare;
-mod drop_fields;
-mod expected;
-mod fault;
-mod memory;
-mod mutate;
-mod plan;
-mod product;
-mod request;
-mod rooms;
-mod run;
-mod selftest;
-mod serve;
-mod shapes;
-mod shrink;
-mod summary;
-
-use arguments::Arguments;
 use judge::random::Random;
 use judge::{judge, tiny::tiny, Verdict};
-use product::ChildProduct;
-use run::Run;
 use std::process::ExitCode;
-use summary::Summary;
+use tester::arguments::{self, Arguments};
+use tester::library::Library;
+use tester::product::{ChildProduct, Product};
+use tester::run::Run;
+use tester::summary::Summary;
+use tester::{exhaustive, selftest, serve};
 
 fn main() -> ExitCode {
     let outcome = arguments::parse(std::env::args().skip(1)).and_then(|arguments| {
-        if !arguments.serve {
+        if !arguments.serve && arguments.exhaustive.is_none() {
             println!("seed {} count {}", arguments.seed, arguments.count);
         }
         start(&arguments)
@@ -51,17 +33,20 @@ fn start(arguments: &Arguments) -> Result<(), String> {
         serve::serve().map_err(|error| error.to_string())
     } else if arguments.selftest {
         selftest::selftest(arguments.seed, arguments.count)
+    } else if let Some(fields) = arguments.exhaustive {
+        exhaustive::run(fields)
+    } else if arguments.library {
+        compare_with(&mut Library, arguments)
     } else if arguments.product.is_empty() {
         compare_with_judge(arguments.seed, arguments.count)
     } else {
-        compare_with_product(arguments)
+        compare_with(&mut ChildProduct::start(&arguments.product)?, arguments)
     }
 }
 
-fn compare_with_product(arguments: &Arguments) -> Result<(), String> {
-    let mut product = ChildProduct::start(&arguments.product)?;
+fn compare_with(product: &mut dyn Product, arguments: &Arguments) -> Result<(), String> {
     let mut run = Run {
-        product: &mut product,
+        product,
         seed: arguments.seed,
         count: arguments.count,
         cases: &arguments.cases,

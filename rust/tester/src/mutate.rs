@@ -48,7 +48,7 @@ fn mutate_once(random: &mut Random, mut query: Vec<u8>) -> Vec<u8> {
         3 => {
             query.remove(place);
         }
-        4 => query.insert(place, random.next() as u8),
+        4 => query.insert(place, random.number() as u8),
         5 => query.truncate(place),
         6 => query.extend(any_field(random)),
         7 | 8 => return mutate_equality(random, &query),
@@ -104,7 +104,7 @@ fn change_length(random: &mut Random, field: &mut Vec<u8>) {
         field[1..3].copy_from_slice(&length.to_be_bytes());
     }
     if longer {
-        field.push(random.next() as u8);
+        field.push(random.number() as u8);
     } else {
         field.pop();
     }
@@ -134,7 +134,7 @@ fn any_field(random: &mut Random) -> Vec<u8> {
     for place in 0..length {
         let high = place % 2 == 0;
         let small = if high { 0 } else { random.below(6) as u8 };
-        field.push(if random.chance(80) { small } else { random.next() as u8 });
+        field.push(if random.chance(80) { small } else { random.number() as u8 });
     }
     if random.chance(10) {
         field.truncate(random.below(field.len() + 1));

@@ -29,13 +29,17 @@ pub fn requests(seed: u64, number: u64, wide_index: bool) -> Vec<Request> {
     questions.map(|question| Request { question, query: query.clone() }).to_vec()
 }
 
-/// The query of this number, of at most 5,000 bytes.
+/// The numbered query of a seed, of at most 5,000 bytes.
+pub fn query_of(seed: u64, number: u64) -> Vec<u8> {
+    query(&mut Random::for_number(seed, number), number)
+}
+
 fn query(random: &mut Random, number: u64) -> Vec<u8> {
     match number {
         0..CONSTRUCTED => constructed(random, number),
         _ => match random.below(100) {
             0..=1 => {
-                let which = random.next() % CONSTRUCTED;
+                let which = random.number() % CONSTRUCTED;
                 constructed(random, which)
             }
             2..=9 => many_paths(random),
@@ -95,17 +99,17 @@ fn lookup(random: &mut Random, query: &[u8], wide_index: bool) -> Question {
     let arrays = fields.iter().filter(|field| field.gives() == Series::Array).count() as u64;
     let array = match random.below(12) {
         0 => *random.pick(&[arrays, arrays + 1, 48, 1 << 16, 1 << 32, u64::MAX]),
-        _ => random.next() % arrays.max(1),
+        _ => random.number() % arrays.max(1),
     };
     let values: Vec<u32> = fields.iter().filter_map(value).collect();
     let index = match random.below(8) {
-        0 => random.next() as u32,
+        0 => random.number() as u32,
         1 => *random.pick(&[0, 1, u32::MAX]),
         _ if values.is_empty() => 0,
         2 => random.pick(&values).wrapping_add(1),
         _ => *random.pick(&values),
     };
-    let wide = if wide_index && random.chance(20) { random.next() << 32 } else { 0 };
+    let wide = if wide_index && random.chance(20) { random.number() << 32 } else { 0 };
     Question::Lookup { array, index: u64::from(index) | wide }
 }
 

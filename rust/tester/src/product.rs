@@ -1,6 +1,7 @@
-//! The product under test: something that answers requests. The usual one is
-//! a child process that is asked over pipes.
+//! The product under test: something that answers requests. Here it is a
+//! child process that is asked over pipes; `library.rs` has the other way.
 
+use crate::expected::expected;
 use crate::request::Request;
 use std::io::{BufRead, BufReader, Write};
 use std::process::{Child, ChildStdin, Command, Stdio};
@@ -13,6 +14,11 @@ const PATIENCE: Duration = Duration::from_secs(120);
 pub trait Product {
     /// One answer for each request, each of whole lines.
     fn answers(&mut self, requests: &[Request]) -> Vec<String>;
+
+    /// The text that this product is to answer, by the second program.
+    fn expected(&self, request: &Request) -> String {
+        expected(request)
+    }
 }
 
 pub struct ChildProduct {

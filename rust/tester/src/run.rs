@@ -3,7 +3,6 @@
 
 use crate::cases;
 use crate::compare::{differences, Difference};
-use crate::expected::expected;
 use crate::plan::requests;
 use crate::product::Product;
 use crate::request::{hex, Request};
@@ -48,7 +47,7 @@ impl Run<'_> {
     /// One batch; of its differences the first for each kind of question.
     fn batch(&mut self, requests: &[Request], place: &str) -> Result<Vec<Difference>, String> {
         for request in requests {
-            self.summary.add(request, &expected(request));
+            self.summary.add(request, &self.product.expected(request));
         }
         let mut found: Vec<Difference> = Vec::new();
         for difference in differences(self.product, requests) {

@@ -1,7 +1,9 @@
 //! Shows that the tester works: no difference without a fault, and for each
 //! injected fault a difference, shrunk, kept and found again from its file.
 
-use crate::fault::{Fault, FaultyProduct, FAULTS};
+use crate::fault::{Fault, FaultyProduct, Reference, FAULTS};
+use crate::library::Library;
+use crate::product::Product;
 use crate::run::Run;
 use crate::summary::Summary;
 use std::path::Path;
@@ -9,24 +11,38 @@ use std::path::Path;
 /// No injected fault needs a larger query than this.
 const SMALL: usize = 120;
 
+/// Tries the faults in the second program's answers, then in the library's.
 pub fn selftest(seed: u64, count: u64) -> Result<(), String> {
-    let directory = Path::new(concat!(env!("CARGO_MANIFEST_DIR"), "/../target/selftest"));
-    run(Fault::None, seed, count, &directory.join("None"))?;
+    try_faults("second", &mut Reference, seed, count)?;
+    try_faults("library", &mut Library, seed, count)?;
+    println!("selftest passed: {} faults found, each in both", FAULTS.len());
+    Ok(())
+}
+
+fn try_faults(name: &str, right: &mut dyn Product, seed: u64, count: u64) -> Result<(), String> {
+    let directory =
+        Path::new(concat!(env!("CARGO_MANIFEST_DIR"), "/../target/selftest")).join(name);
+    run(Fault::None, right, seed, count, &directory.join("None"))?;
     for fault in FAULTS {
         let cases = directory.join(format!("{fault:?}"));
         let _ = std::fs::remove_dir_all(&cases);
-        let largest = run(fault, seed, count, &cases)?;
+        let largest = run(fault, right, seed, count, &cases)?;
         // Once more with no random query at all: the kept file must show it.
-        run(fault, seed, 0, &cases)?;
+        run(fault, right, seed, 0, &cases)?;
         println!("{fault:?}: found, shrunk to at most {largest} bytes, kept and found again\n");
     }
-    println!("selftest passed: {} faults found", FAULTS.len());
     Ok(())
 }
 
 /// Runs a faulty copy; the answer is the largest shrunk query's length.
-fn run(fault: Fault, seed: u64, count: u64, cases: &Path) -> Result<usize, String> {
-    let product = &mut FaultyProduct { fault };
+fn run(
+    fault: Fault,
+    right: &mut dyn Product,
+    seed: u64,
+    count: u64,
+    cases: &Path,
+) -> Result<usize, String> {
+    let product = &mut FaultyProduct { fault, right };
     let summary = Summary::default();
     let found = Run { product, seed, count, cases, wide_index: false, summary }.all()?;
     if found.is_empty() != (fault == Fault::None) {

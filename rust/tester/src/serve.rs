@@ -9,7 +9,7 @@ pub fn serve() -> io::Result<()> {
     let mut input = BufReader::new(io::stdin().lock());
     let mut output = BufWriter::new(io::stdout().lock());
     while let Some(request) = read_request(&mut input)? {
-        write!(output, "{}.\n", expected(&request))?;
+        writeln!(output, "{}.", expected(&request))?;
         output.flush()?;
     }
     Ok(())

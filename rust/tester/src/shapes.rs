@@ -61,7 +61,7 @@ impl Shape {
     }
 
     fn value(&self, random: &mut Random) -> u32 {
-        let any = random.next() as u32;
+        let any = random.number() as u32;
         match (self.values, random.below(8)) {
             (0, 0) => u32::MAX - any % 3,
             (0, 1..=3) => any % 3,

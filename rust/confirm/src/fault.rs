@@ -1,0 +1,123 @@
+//! Faults put into the product's answers, to show that the solvers find them.
+//! Each is named by what goes wrong.
+
+use crate::answers::Answers;
+use crate::questions::Kind;
+use judge::random::Random;
+
+#[derive(Clone, Copy, Debug, PartialEq, Eq)]
+pub enum Fault {
+    VerdictFlipped,
+    LiteralDropped,
+    LiteralTurned,
+    ConclusionFlipped,
+    ClauseDropped,
+    ClauseAdded,
+    ImpossibleClauseAdded,
+    SignTurned,
+    CellWrong,
+    CellFilled,
+}
+
+pub const FAULTS: [Fault; 10] = [
+    Fault::VerdictFlipped,
+    Fault::LiteralDropped,
+    Fault::LiteralTurned,
+    Fault::ConclusionFlipped,
+    Fault::ClauseDropped,
+    Fault::ClauseAdded,
+    Fault::ImpossibleClauseAdded,
+    Fault::SignTurned,
+    Fault::CellWrong,
+    Fault::CellFilled,
+];
+
+impl Fault {
+    /// The questions that each must find the fault in some query.
+    pub fn found_by(self) -> &'static [Kind] {
+        match self {
+            Fault::VerdictFlipped => &[Kind::GuessFits, Kind::GuessRuledOut],
+            Fault::LiteralDropped | Fault::ConclusionFlipped => &[Kind::LemmaHolds],
+            Fault::LiteralTurned => &[Kind::LemmaFailsGuess],
+            Fault::ClauseDropped => &[Kind::ClausesFailGuess, Kind::ClausesSayLemma],
+            Fault::ClauseAdded => &[Kind::LemmaSaysClauses],
+            Fault::ImpossibleClauseAdded => &[Kind::ClausesOpen],
+            Fault::SignTurned => {
+                &[Kind::ClausesFailGuess, Kind::ClausesSayLemma, Kind::LemmaSaysClauses]
+            }
+            Fault::CellWrong | Fault::CellFilled => &[Kind::ModelFits],
+        }
+    }
+
+    /// The answers with the fault, or nothing where it has no place.
+    pub fn put(self, random: &mut Random, answers: &Answers) -> Option<Answers> {
+        let mut answers = answers.clone();
+        match self {
+            Fault::VerdictFlipped => answers.consistent = !answers.consistent,
+            Fault::LiteralDropped | Fault::LiteralTurned | Fault::ConclusionFlipped => {
+                self.put_in_lemma(random, &mut answers)?;
+            }
+            Fault::CellWrong | Fault::CellFilled => self.put_in_model(random, &mut answers)?,
+            _ => self.put_in_clauses(random, &mut answers)?,
+        }
+        Some(answers)
+    }
+
+    fn put_in_lemma(self, random: &mut Random, answers: &mut Answers) -> Option<()> {
+        let lemma = answers.lemma.as_mut()?;
+        if self == Fault::ConclusionFlipped {
+            lemma.conclusion = lemma.conclusion.denied();
+            return Some(());
+        }
+        if lemma.premise.is_empty() {
+            return None;
+        }
+        let place = random.below(lemma.premise.len());
+        if self == Fault::LiteralDropped {
+            lemma.premise.remove(place);
+        } else {
+            lemma.premise[place] = lemma.premise[place].denied();
+        }
+        Some(())
+    }
+
+    fn put_in_clauses(self, random: &mut Random, answers: &mut Answers) -> Option<()> {
+        let clauses = &mut answers.clauses.as_mut()?.clauses;
+        let place = random.below(clauses.len());
+        match self {
+            Fault::ClauseDropped => {
+                clauses.remove(place);
+            }
+            // The other sign of the linking clause's first literal.
+            Fault::ClauseAdded => {
+                let first = clauses.last()?[0];
+                clauses.push(vec![-first]);
+            }
+            Fault::ImpossibleClauseAdded => clauses.push(Vec::new()),
+            _ => {
+                let literal = random.below(clauses[place].len());
+                clauses[place][literal] *= -1;
+            }
+        }
+        Some(())
+    }
+
+    fn put_in_model(self, random: &mut Random, answers: &mut Answers) -> Option<()> {
+        let model = answers.model.as_mut()?;
+        if model.is_empty() {
+            return None;
+        }
+        let array = random.below(model.len());
+        let cells = &mut model[array];
+        if self == Fault::CellFilled {
+            // No source has this index but by a rare chance.
+            cells.push((0x7654_3210, 1));
+        } else if cells.is_empty() {
+            return None;
+        } else {
+            let cell = random.below(cells.len());
+            cells[cell].1 ^= 1;
+        }
+        Some(())
+    }
+}
