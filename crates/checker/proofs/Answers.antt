@@ -11,7 +11,6 @@ use borrow.Author.Tests.{ne-eqb}
 use lib.IntN.{ℤ}
 use lib.ListN.{length, getD, drop}
 use Rattle.paper.specs.Lists.{_∈_, mapOption}
-use Rattle.paper.specs.Terms.{Query}
 use Rattle.paper.specs.Load.{load}
 use Rattle.paper.specs.Load as Load
 use Rattle.paper.specs.Conflict.{Pair}
@@ -23,8 +22,11 @@ use Rattle.meaning.proofs.Called.{check-none, check-some, inConflict}
 use Rattle.meaning.proofs.Demands.{refused-alike}
 use Rattle.terms.specs.declared.Terms.{Terms}
 use Rattle.terms.specs.declared.Guess.{Guess}
-use Rattle.terms.specs.Table.{queryOf, loadedAs}
+use Rattle.terms.specs.declared.Loaded.{Loaded}
+use Rattle.terms.specs.Table.{queryOf, loadedAs, loadedOf}
 use Rattle.terms.specs.Valid.{Valid}
+use Rattle.terms.specs.Rows.{Loadable}
+use Rattle.terms.proofs.Prefix.{loadable}
 use Rattle.lemma.specs.declared.Literals.{Literals}
 use Rattle.lemma.specs.Pairs.{Numbers, foundOf, pairIn}
 use Rattle.lemma.specs.Steps.{PathOf}
@@ -42,7 +44,7 @@ use Rattle.checker.proofs.Joined.{pairs-same, conflict-same, lemma-same
 use Rattle.checker.proofs.Facts.{pair-facts}
 
 -- a slice of bytes holds bytes
-pub are-bytes : (xs : List ℕ) → ((i : ℕ) → getD xs i 0 < 256) → AreBytes xs
+are-bytes : (xs : List ℕ) → ((i : ℕ) → getD xs i 0 < 256) → AreBytes xs
 are-bytes [] small x here = absurd (List·Memᴰ·not-nil here)
 are-bytes (y ∷ xs) small x here = go (List·Memᴰ·cases-cons here) (are-bytes xs (λ i. small (suc i)) x)
   where
@@ -50,14 +52,24 @@ are-bytes (y ∷ xs) small x here = go (List·Memᴰ·cases-cons here) (are-byte
     go (inl same) below = subst (λ (z : ℕ). z < 256) (sym same) (small zero)
     go (inr further) below = below further
 
--- what the loader's number says of the paper's loading
-pub loaded-refused : (bytes : List ℕ) (number offset : ℕ) (query : Query) → number ≢ 0 → loadedAs number offset query ≡ load 32 bytes → load 32 bytes ≡ Load.refused number offset
-loaded-refused bytes zero offset query some-number is = absurd (some-number refl)
-loaded-refused bytes (suc number) offset query some-number is = sym is
+-- what the loader's answer says of the paper's loading
+module _ (bytes : List ℕ) (r : Loaded) (is : loadedOf r ≡ load 32 bytes) where
+  pub loaded-refused : r .refusal ≢ 0 → load 32 bytes ≡ Load.refused (r .refusal) (r .offset)
+  loaded-refused some-number = go (r .refusal) some-number is
+    where
+      go : (number : ℕ) → number ≢ 0 → loadedAs number (r .offset) (queryOf (r .terms) (r .guess)) ≡ load 32 bytes → load 32 bytes ≡ Load.refused number (r .offset)
+      go zero some-number same = absurd (some-number refl)
+      go (suc number) some-number same = sym same
 
-pub loaded-accepted : (bytes : List ℕ) (number offset : ℕ) (query : Query) → number ≡ 0 → loadedAs number offset query ≡ load 32 bytes → load 32 bytes ≡ Load.accepted query
-loaded-accepted bytes zero offset query none-number is = sym is
-loaded-accepted bytes (suc number) offset query none-number is = absurd (omega (arith, none-number))
+  pub loaded-accepted : r .refusal ≡ 0 → load 32 bytes ≡ Load.accepted (queryOf (r .terms) (r .guess))
+  loaded-accepted none-number = go (r .refusal) none-number is
+    where
+      go : (number : ℕ) → number ≡ 0 → loadedAs number (r .offset) (queryOf (r .terms) (r .guess)) ≡ load 32 bytes → load 32 bytes ≡ Load.accepted (queryOf (r .terms) (r .guess))
+      go zero none-number same = sym same
+      go (suc number) none-number same = absurd (omega (arith, none-number))
+
+  pub loaded-fit : ((i : ℕ) → getD bytes i 0 < 256) → r .refusal ≡ 0 → Valid (r .terms) (r .guess) → Loadable (r .terms) (r .guess)
+  loaded-fit small none-number valid = loadable (r .terms) (r .guess) bytes (are-bytes bytes small) (loaded-accepted none-number) valid
 
 -- the answer of a refused load
 pub check-refused : (bytes before : List ℕ) (number offset : ℕ) → load 32 bytes ≡ Load.refused number offset

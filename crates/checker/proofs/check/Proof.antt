@@ -1,10 +1,7 @@
 -- A refused query by the loader's refusal; an accepted one by what the tables were judged to be.
 -- Assumes nothing.
-use denote.Ref.{now}
-use Rattle.terms.specs.Table.{queryOf}
-use Rattle.terms.proofs.Prefix.{loadable}
-use Rattle.checker.proofs.Answers.{are-bytes, loaded-refused, loaded-accepted, check-refused, check-concluded}
 use borrow.Author.Needs.{needs}
+use Rattle.checker.proofs.Answers.{loaded-refused, loaded-accepted, loaded-fit, check-refused, check-concluded}
 use Rattle.checker.proofs.check.Statement.{statement}
 use Rattle.checker.proofs.check.Tie as tie
 
@@ -13,15 +10,14 @@ load-requires c κs = search needs
 
 returns : tie.Need-returns
 returns c =
-    check-refused (now (c .before .before .before .before .args .query)) (now (c .before .before .before .before .args .answer)) (c .before .load .result .refusal) (c .before .load .result .offset)
-    (loaded-refused (now (c .before .before .before .before .args .query)) (c .before .load .result .refusal) (c .before .load .result .offset) (queryOf (c .before .load .result .terms) (c .before .load .result .guess)) (c .if1 .taken) (c .before .load .ensures .0))
+    let loaded = c .before .load in
+    check-refused _ _ _ _ (loaded-refused _ (loaded .result) (loaded .ensures .0) (c .if1 .taken))
 
 judge-requires : tie.Need-judge-requires
 judge-requires c κs =
-    loadable (c .before .before .before .load .result .terms) (c .before .before .before .load .result .guess) (now (c .before .before .before .before .before .before .args .query))
-    (are-bytes (now (c .before .before .before .before .before .before .args .query)) (λ i. c .before .before .before .before .before .shared-slice-known .given i .fits))
-    (loaded-accepted (now (c .before .before .before .before .before .before .args .query)) (c .before .before .before .load .result .refusal) (c .before .before .before .load .result .offset) (queryOf (c .before .before .before .load .result .terms) (c .before .before .before .load .result .guess)) (c .before .before .if1 .left) (c .before .before .before .load .ensures .0))
-    (c .before .before .before .load .ensures .1)
+    let loaded = c .before .before .before .load in
+    let bytes = c .before .before .before .before .before .shared-slice-known .given in
+    loaded-fit _ (loaded .result) (loaded .ensures .0) (λ i. bytes i .fits) (c .before .before .if1 .left) (loaded .ensures .1)
 
 conclude-requires : tie.Need-conclude-requires
 conclude-requires c κs = search needs
@@ -31,14 +27,9 @@ same-length c = search needs
 
 returns-2 : tie.Need-returns-2
 returns-2 c =
-    check-concluded (now (c .before .before .before .before .before .before .before .before .before .before .before .args .query)) (c .before .before .before .before .before .before .before .before .load .result .terms) (c .before .before .before .before .before .before .before .before .load .result .guess) (c .before .before .before .before .before .before .before .before .load .ensures .1)
-    (loaded-accepted (now (c .before .before .before .before .before .before .before .before .before .before .before .args .query)) (c .before .before .before .before .before .before .before .before .load .result .refusal) (c .before .before .before .before .before .before .before .before .load .result .offset) (queryOf (c .before .before .before .before .before .before .before .before .load .result .terms) (c .before .before .before .before .before .before .before .before .load .result .guess)) (c .before .before .before .before .before .before .before .if1 .left) (c .before .before .before .before .before .before .before .before .load .ensures .0))
-    (c .before .before .before .before .judge .result)
-    (c .before .before .before .before .judge .ensures)
-    (now (c .before .before .before .before .before .before .before .before .before .before .before .args .answer))
-    (c .before .before .conclude .last .1 .0)
-    (c .before .before .conclude .result)
-    (c .before .before .conclude .ensures)
+    let loaded = c .before .before .before .before .before .before .before .before .load in
+    let accepted = loaded-accepted _ (loaded .result) (loaded .ensures .0) (c .before .before .before .before .before .before .before .if1 .left) in
+    check-concluded _ _ _ (loaded .ensures .1) accepted _ (c .before .before .before .before .judge .ensures) _ _ _ (c .before .before .conclude .ensures)
 
 pub check-spec : {M : Type 1} → statement M
 check-spec =

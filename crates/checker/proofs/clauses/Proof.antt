@@ -1,11 +1,8 @@
 -- A refused query by the loader's refusal; an accepted one by what the tables were judged to be.
 -- Assumes nothing.
-use denote.Ref.{now}
-use Rattle.terms.specs.Table.{queryOf}
-use Rattle.terms.proofs.Prefix.{loadable}
-use Rattle.checker.proofs.Answers.{are-bytes, loaded-refused, loaded-accepted, write-refused}
-use Rattle.checker.proofs.Runs.{write-concluded}
 use borrow.Author.Needs.{needs}
+use Rattle.checker.proofs.Answers.{loaded-refused, loaded-accepted, loaded-fit, write-refused}
+use Rattle.checker.proofs.Runs.{write-concluded}
 use Rattle.checker.proofs.clauses.Statement.{statement}
 use Rattle.checker.proofs.clauses.Tie as tie
 
@@ -14,15 +11,14 @@ load-requires c κs = search needs
 
 returns : tie.Need-returns
 returns c =
-    write-refused (now (c .before .before .before .args .query)) (now (c .before .before .before .args .numbers)) (c .before .load .result .refusal) (c .before .load .result .offset) (c .if1 .taken)
-    (loaded-refused (now (c .before .before .before .args .query)) (c .before .load .result .refusal) (c .before .load .result .offset) (queryOf (c .before .load .result .terms) (c .before .load .result .guess)) (c .if1 .taken) (c .before .load .ensures .0))
+    let loaded = c .before .load in
+    write-refused _ _ _ _ (c .if1 .taken) (loaded-refused _ (loaded .result) (loaded .ensures .0) (c .if1 .taken))
 
 judge-requires : tie.Need-judge-requires
 judge-requires c κs =
-    loadable (c .before .before .before .load .result .terms) (c .before .before .before .load .result .guess) (now (c .before .before .before .before .before .args .query))
-    (are-bytes (now (c .before .before .before .before .before .args .query)) (λ i. c .before .before .before .before .shared-slice-known .given i .fits))
-    (loaded-accepted (now (c .before .before .before .before .before .args .query)) (c .before .before .before .load .result .refusal) (c .before .before .before .load .result .offset) (queryOf (c .before .before .before .load .result .terms) (c .before .before .before .load .result .guess)) (c .before .before .if1 .left) (c .before .before .before .load .ensures .0))
-    (c .before .before .before .load .ensures .1)
+    let loaded = c .before .before .before .load in
+    let bytes = c .before .before .before .before .shared-slice-known .given in
+    loaded-fit _ (loaded .result) (loaded .ensures .0) (λ i. bytes i .fits) (c .before .before .if1 .left) (loaded .ensures .1)
 
 write-requires : tie.Need-write-requires
 write-requires c κs = search needs
@@ -32,14 +28,9 @@ same-length c = search needs
 
 returns-2 : tie.Need-returns-2
 returns-2 c =
-    write-concluded (now (c .before .before .before .before .before .before .before .before .before .args .query)) (c .before .before .before .before .before .before .before .load .result .terms) (c .before .before .before .before .before .before .before .load .result .guess) (c .before .before .before .before .before .before .before .load .ensures .1)
-    (loaded-accepted (now (c .before .before .before .before .before .before .before .before .before .args .query)) (c .before .before .before .before .before .before .before .load .result .refusal) (c .before .before .before .before .before .before .before .load .result .offset) (queryOf (c .before .before .before .before .before .before .before .load .result .terms) (c .before .before .before .before .before .before .before .load .result .guess)) (c .before .before .before .before .before .before .if1 .left) (c .before .before .before .before .before .before .before .load .ensures .0))
-    (c .before .before .before .judge .result)
-    (c .before .before .before .judge .ensures)
-    (now (c .before .before .before .before .before .before .before .before .before .args .numbers))
-    (c .before .write .last .1 .0)
-    (c .before .write .result)
-    (c .before .write .ensures)
+    let loaded = c .before .before .before .before .before .before .before .load in
+    let accepted = loaded-accepted _ (loaded .result) (loaded .ensures .0) (c .before .before .before .before .before .before .if1 .left) in
+    write-concluded _ _ _ (loaded .ensures .1) accepted _ (c .before .before .before .judge .ensures) _ _ _ (c .before .write .ensures)
 
 pub clauses-spec : {M : Type 1} → statement M
 clauses-spec =

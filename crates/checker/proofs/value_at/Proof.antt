@@ -15,7 +15,7 @@ abbrev μ-loop : tie.MeasureT-loop
 μ-loop array index sources rows count k₀ k = count - k
 
 loop-holds : tie.Need-loop-holds Inv-loop μ-loop
-loop-holds c = (omega arith, refl, c .before .before .pre .1, left-first (c .before .before .args .judged .sources) (c .before .before .args .judged .rows) (c .before .before .args .array) (c .before .before .args .index))
+loop-holds c = (omega arith, refl, c .before .before .pre .1, left-first _ _ _ _)
 
 mul-holds : tie.Need-mul-holds Inv-loop μ-loop
 mul-holds c = omega arith
@@ -37,7 +37,9 @@ element-copy-out-result c = omega arith
 
 returns : tie.Need-returns Inv-loop μ-loop
 returns c =
-    left-found (c .before .before .before .before .before .before .before .before .before .before .args .judged .sources) (c .before .before .before .before .before .before .before .before .before .before .args .judged .rows) (c .before .before .before .before .before .before .before .before .before .before .args .array) (c .before .before .before .before .before .before .before .before .before .before .args .index) (c .before .before .before .before .before .before .before .loop .k) (c .before .before .before .before .before .before .loop-test .taken) (held-at (c .before .before .before .before .before .before .before .before .before .before .args .judged .sources) (c .before .before .before .before .before .before .before .before .before .before .args .judged .rows) (c .before .before .before .before .before .before .before .before .before .before .args .array) (c .before .before .before .before .before .before .before .before .before .before .args .index) (c .before .before .before .before .before .before .before .loop .k) (c .before .before .before .row .ensures) (sym (c .before .before .holds .ensures) ∙ c .before .if1 .taken)) (c .before .before .before .before .before .before .before .loop .inv .3)
+    let at = c .before .before .before .before .before .before .before in
+    let judged = at .before .before .before .args .judged in
+    left-found (judged .sources) (judged .rows) _ _ (at .loop .k) (c .before .before .before .before .before .before .loop-test .taken) (held-at (judged .sources) (judged .rows) _ _ (at .loop .k) (c .before .before .before .row .ensures) (sym (c .before .before .holds .ensures) ∙ c .before .if1 .taken)) (at .loop .inv .3)
 
 add-k : tie.Need-add-k Inv-loop μ-loop
 add-k c = omega arith
@@ -46,15 +48,17 @@ loop-less : tie.Need-loop-less Inv-loop μ-loop
 loop-less c = omega arith
 
 loop-again : tie.Need-loop-again Inv-loop μ-loop
-loop-again c = (
-  omega arith,
-  refl,
-  c .before .before .before .before .before .before .loop .inv .2,
-  left-next (c .before .before .before .before .before .before .before .before .before .args .judged .sources) (c .before .before .before .before .before .before .before .before .before .args .judged .rows) (c .before .before .before .before .before .before .before .before .before .args .array) (c .before .before .before .before .before .before .before .before .before .args .index) (c .before .before .before .before .before .before .loop .k) (c .before .before .before .before .before .loop-test .taken) (held-at (c .before .before .before .before .before .before .before .before .before .args .judged .sources) (c .before .before .before .before .before .before .before .before .before .args .judged .rows) (c .before .before .before .before .before .before .before .before .before .args .array) (c .before .before .before .before .before .before .before .before .before .args .index) (c .before .before .before .before .before .before .loop .k) (c .before .before .row .ensures) (sym (c .before .holds .ensures) ∙ c .if1 .left)) (c .before .before .before .before .before .before .loop .inv .3),
-)
+loop-again c =
+    let at = c .before .before .before .before .before .before in
+    let judged = at .before .before .before .args .judged in (
+      omega arith,
+      refl,
+      at .loop .inv .2,
+      left-next (judged .sources) (judged .rows) _ _ (at .loop .k) (c .before .before .before .before .before .loop-test .taken) (held-at (judged .sources) (judged .rows) _ _ (at .loop .k) (c .before .before .row .ensures) (sym (c .before .holds .ensures) ∙ c .if1 .left)) (at .loop .inv .3),
+    )
 
 returns-2 : tie.Need-returns-2 Inv-loop μ-loop
-returns-2 c = left-none (c .before .before .before .before .args .judged .sources) (c .before .before .before .before .args .judged .rows) (c .before .before .before .before .args .array) (c .before .before .before .before .args .index) (c .before .loop .k) (c .loop-test .left) (c .before .loop .inv .3)
+returns-2 c = left-none _ _ _ _ _ (c .loop-test .left) (c .before .loop .inv .3)
 
 pub value-at-spec : {M : Type 1} → statement M
 value-at-spec =

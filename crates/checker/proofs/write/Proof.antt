@@ -19,28 +19,30 @@ enum-known-found : tie.Need-enum-known-found
 enum-known-found c = search needs
 
 literals-between-requires : tie.Need-literals-between-requires
-literals-between-requires c κs = (c .before .before .before .pre, sym (c .before .before .before .pre .judged .found) ∙ ap foundOf (c .before .found .given .1))
+literals-between-requires c κs =
+    let start = c .before .before .before in
+    (start .pre, sym (start .pre .judged .found) ∙ ap foundOf (c .before .found .given .1))
 
 counts-requires : tie.Need-counts-requires
 counts-requires c κs = search needs
 
 returns : tie.Need-returns
 returns c =
-    writes-short (c .before .before .before .before .before .before .before .args .judged) (record { first = c .before .before .before .before .before .found .given .0 .0; later = c .before .before .before .before .before .found .given .0 .1 .0 })
-    (ap foundOf (c .before .before .before .before .before .found .given .1))
-    (c .before .before .before .literals-between .result)
-    (c .before .before .before .literals-between .ensures)
-    (now (c .before .before .before .before .before .before .before .args .numbers))
-    (subst (λ (n : ℕ). length (now (c .before .before .before .before .before .before .before .args .numbers)) < n) (c .before .before .counts .ensures .1 .1 (c .before .before .before .before .before .before .before .args .judged .bases) (c .before .before .before .before .before .before .before .args .judged .booleans)) (c .if1 .taken))
+    let start = c .before .before .before .before .before .before .before in
+    let before = now (start .args .numbers) in
+    let counted = c .before .before .counts .ensures .1 .1 (start .args .judged .bases) (start .args .judged .booleans) in
+    writes-short _ _ (ap foundOf (c .before .before .before .before .before .found .given .1)) _ (c .before .before .before .literals-between .ensures) before (subst (λ (n : ℕ). length before < n) counted (c .if1 .taken))
 
 put-clauses-requires : tie.Need-put-clauses-requires
 put-clauses-requires c κs =
-    let known = c .before .before .before .before .before .before .before .before .pre in (
+    let start = c .before .before .before .before .before .before .before .before in
+    let known = start .pre in
+    let counted = c .before .before .before .counts .ensures .1 .1 (start .args .judged .bases) (start .args .judged .booleans) in (
       c .before .before .before .before .literals-between .ensures .made .proper .most,
       omega (arith, known .judged .bases, known .valid .bases-most),
       omega (arith, known .judged .booleans, known .valid .booleans-most),
       omega arith,
-      subst (λ (n : ℕ). n ≤ length (now (c .before .before .before .before .before .before .before .before .args .numbers))) (c .before .before .before .counts .ensures .1 .1 (c .before .before .before .before .before .before .before .before .args .judged .bases) (c .before .before .before .before .before .before .before .before .args .judged .booleans)) (c .before .if1 .left),
+      subst (λ (n : ℕ). n ≤ length (now (start .args .numbers))) counted (c .before .if1 .left),
     )
 
 mul-variables : tie.Need-mul-variables
@@ -52,6 +54,7 @@ add-variables c = search needs
 add-variables-2 : tie.Need-add-variables-2
 add-variables-2 c =
     let known = c .before .before .before .before .before .before .before .before .before .before .before .pre in
+    let between = c .before .before .before .before .before .before .before .literals-between in
     omega (
       arith,
       known .judged .bases,
@@ -59,32 +62,29 @@ add-variables-2 c =
       known .valid .bases-most,
       known .valid .booleans-most,
       c .before .before .before .before .before .before .counts .ensures .1 .0,
-      fresh-small (c .before .before .before .before .before .before .before .literals-between .result) (c .before .before .before .before .before .before .before .literals-between .ensures .made .proper .most),
+      fresh-small (between .result) (between .ensures .made .proper .most),
     )
 
 returns-2 : tie.Need-returns-2
-returns-2 c = writes-quiet (c .before .before .args .judged) (ap foundOf (c .enum-told .given .1)) (now (c .before .before .args .numbers))
+returns-2 c = writes-quiet _ (ap foundOf (c .enum-told .given .1)) _
 
 same-length : tie.Need-same-length
 same-length c = search needs
 
 returns-3 : tie.Need-returns-3
 returns-3 c =
+    let start = c .before .before .before .before .before .before .before .before .before .before .before in
+    let before = now (start .args .numbers) in
+    let bases = start .args .judged .bases in
+    let booleans = start .args .judged .booleans in
     let counted = c .before .before .before .before .before .before .counts .ensures in
-    writes-clauses (c .before .before .before .before .before .before .before .before .before .before .before .args .judged) (record { first = c .before .before .before .before .before .before .before .before .before .found .given .0 .0; later = c .before .before .before .before .before .before .before .before .before .found .given .0 .1 .0 })
-    (ap foundOf (c .before .before .before .before .before .before .before .before .before .found .given .1))
-    (c .before .before .before .before .before .before .before .literals-between .result)
-    (c .before .before .before .before .before .before .before .literals-between .ensures)
-    (now (c .before .before .before .before .before .before .before .before .before .before .before .args .numbers))
-    (c .before .before .put-clauses .last .1 .1 .1 .1 .0)
-    (32 * c .before .before .before .before .before .before .before .before .before .before .before .args .judged .bases + c .before .before .before .before .before .before .before .before .before .before .before .args .judged .booleans + c .before .before .before .before .before .before .counts .result .fresh)
-    (c .before .before .before .before .before .before .counts .result .clauses)
-    (c .before .before .put-clauses .result)
-    (subst (λ (n : ℕ). n ≤ length (now (c .before .before .before .before .before .before .before .before .before .before .before .args .numbers))) (counted .1 .1 (c .before .before .before .before .before .before .before .before .before .before .before .args .judged .bases) (c .before .before .before .before .before .before .before .before .before .before .before .args .judged .booleans)) (c .before .before .before .before .if1 .left))
-    (ap (λ (n : ℕ). 32 * c .before .before .before .before .before .before .before .before .before .before .before .args .judged .bases + c .before .before .before .before .before .before .before .before .before .before .before .args .judged .booleans + n) (counted .1 .0))
-    (counted .0 (c .before .before .before .before .before .before .before .before .before .before .before .args .judged .bases) (c .before .before .before .before .before .before .before .before .before .before .before .args .judged .booleans))
-    (c .before .before .put-clauses .ensures .1)
-    (c .before .before .put-clauses .ensures .0)
+    let put = c .before .before .put-clauses in
+    let fits = subst (λ (n : ℕ). n ≤ length before) (counted .1 .1 bases booleans) (c .before .before .before .before .if1 .left) in
+    writes-clauses _ _ (ap foundOf (c .before .before .before .before .before .before .before .before .before .found .given .1)) _ (c .before .before .before .before .before .before .before .literals-between .ensures) before _ _ _ _ fits
+    (ap (λ (n : ℕ). 32 * bases + booleans + n) (counted .1 .0))
+    (counted .0 bases booleans)
+    (put .ensures .1)
+    (put .ensures .0)
 
 pub write-spec : {M : Type 1} → statement M
 write-spec =
