@@ -25,20 +25,23 @@ use Rattle.terms.specs.declared.Guess.{Guess}
 use Rattle.terms.specs.declared.Loaded.{Loaded}
 use Rattle.terms.specs.Table.{queryOf, loadedAs, loadedOf}
 use Rattle.terms.specs.Valid.{Valid}
-use Rattle.terms.specs.Rows.{Loadable}
+use Rattle.terms.specs.declared.Sources.{Sources}
+use Rattle.terms.specs.declared.Edges.{Edges}
+use Rattle.terms.specs.Rows.{Loadable, SourcesFrom, EdgesFrom}
 use Rattle.terms.proofs.Prefix.{loadable}
 use Rattle.lemma.specs.declared.Literals.{Literals}
 use Rattle.lemma.specs.Pairs.{Numbers, foundOf, pairIn}
 use Rattle.lemma.specs.Steps.{PathOf}
 use Rattle.lemma.specs.Literals.{literalsOf}
-use Rattle.reach.specs.Reached.{originAt, valueAt}
+use Rattle.reach.specs.Reached.{originAt, valueAt, Fit}
 use Rattle.lemma.proofs.Taken.{pairAt}
 use Rattle.checker.specs.declared.Judged.{Judged}
 use Rattle.checker.specs.declared.Checked.{Checked}
 use Rattle.checker.specs.declared.Checked.the-variants.{Refused, Consistent, Conflict}
 use Rattle.checker.specs.declared.Looked.the-variants.{Refused as NotLooked, Value}
 use Rattle.checker.specs.declared.Written.the-variants.{Refused as NotWritten, Clauses}
-use Rattle.checker.specs.Judged.{JudgedFrom, Between, Concluded}
+use Rattle.checker.specs.declared.Ruling.{Ruling}
+use Rattle.checker.specs.Judged.{JudgedFrom, Ruled, Between, Concluded}
 use Rattle.checker.specs.Reports.{reportOf, CheckedAs, lookReportOf, lookReported, WrittenAs}
 use Rattle.checker.proofs.Joined.{pairs-same, conflict-same, lemma-same}
 use Rattle.checker.proofs.Facts.{pair-facts}
@@ -77,6 +80,24 @@ pub check-refused : (bytes before : List ℕ) (number offset : ℕ) → load 32 
 check-refused bytes before number offset is =
     rw (refused-alike 32 bytes number offset is (length before) 0 0 .0) (record { report = refl; buffer = refl })
 
+-- the tables of loaded terms fit together, and a ruling on them makes them the paper's
+module _ (t : Terms) (g : Guess) (valid : Valid t g) (s : Sources) (e : Edges) (from-s : SourcesFrom t g s) (from-e : EdgesFrom t g e) where
+  pub tables-fit : Fit e s (t .arrays)
+  tables-fit =
+      record {
+        ends = record { edges = from-e .few; arrays = valid .arrays-most; left = from-e .lefts; right = from-e .rights };
+        sources = from-s .few;
+        origin = from-s .origins;
+      }
+
+  abbrev pub tables : (words : List ℕ) → Ruling → Judged
+  tables words r =
+      record { sources = s; edges = e; rows = words; arrays = t .arrays; bases = t .bases; booleans = t .booleans; pairs = r .pairs; found = r .found }
+
+  pub tables-judged : (words : List ℕ) (r : Ruling) → Ruled s e (t .arrays) words r → JudgedFrom t g (tables words r)
+  tables-judged words r ruled =
+      record { sources = from-s; edges = from-e; arrays = refl; bases = refl; booleans = refl; rows = ruled .rows; pairs = ruled .pairs; found = ruled .found }
+
 module _ (bytes : List ℕ) (t : Terms) (g : Guess) (valid : Valid t g) (loaded : load 32 bytes ≡ Load.accepted (queryOf t g)) (j : Judged) (made : JudgedFrom t g j) where
   pub pairs-are : j .pairs ≡ pairsOf (queryOf t g)
   pairs-are = made .pairs ∙ pairs-same t g valid (j .sources) (j .edges) (made .sources) (made .edges)
@@ -96,7 +117,7 @@ module _ (bytes : List ℕ) (t : Terms) (g : Guess) (valid : Valid t g) (loaded 
       literals
       (between .made)
 
-  module _ (before after : List ℕ) (r : Checked) (concluded : Concluded j before after r) where
+  module _ (before after : List ℕ) (r : Checked) (concluded : Concluded (j .sources) (j .edges) (j .arrays) (record { pairs = j .pairs; found = j .found }) before after r) where
     quiet-as : foundOf (j .found) ≡ none → CheckedAs (check 32 bytes (length before)) before after r
     quiet-as none-found =
         let answer = concluded .quiet none-found in

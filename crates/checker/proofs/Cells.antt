@@ -28,7 +28,7 @@ use Rattle.checker.proofs.Joined.{model-same}
 use Rattle.checker.proofs.Answers.{pair-is}
 
 module _ (bytes : List ℕ) (t : Terms) (g : Guess) (valid : Valid t g) (loaded : load 32 bytes ≡ Load.accepted (queryOf t g)) (j : Judged) (made : JudgedFrom t g j)
-    (a x : ℕ) (r : Looked) (looked : LookedIn j a x r) where
+    (a x : ℕ) (r : Looked) (looked : LookedIn (j .sources) (j .rows) (j .arrays) (j .found) a x r) where
   arrays-are : given array (queryOf t g .terms) ≡ j .arrays
   arrays-are = valid .counts array ∙ sym (made .arrays)
 

@@ -19,9 +19,9 @@ use Rattle.terms.specs.declared.Edges.{Edges}
 use Rattle.terms.specs.Graph.{opened}
 use Rattle.reach.proofs.Rows.{open-ranged}
 use Rattle.reach.specs.Reached.{reachedIn, bit, originAt, valueAt, RowOf, Ends}
-use Rattle.lemma.specs.Pairs.{Numbers, clashOf, clashIn, pairAmong, pairIn}
-use Rattle.checker.specs.declared.Judged.{Judged}
-use Rattle.checker.specs.Judged.{Judgeable}
+use Rattle.lemma.specs.Pairs.{Numbers, clashOf, clashIn, pairAmong, pairIn, foundOf}
+use Rattle.checker.specs.declared.Ruling.{Ruling}
+use Rattle.checker.specs.Judged.{Judgeable, Ready}
 
 -- what a pair of a list is
 among-facts : (clash : ℕ → ℕ → Bool) (is : List ℕ) {numbers : Numbers} → pairAmong clash is ≡ some numbers
@@ -75,32 +75,21 @@ bit-reached e n x origin row a made set-bit = go (reachedIn e n x origin a) (sym
     go true is = refl
     go false is = absurd (omega (arith, is))
 
--- what the literals between two sources of a pair need
-pub record Ready (j : Judged) (first later : ℕ) : Type 0 where
-  pub first-in : first < 304
-  pub later-in : later < 304
-  pub ends : Ends (j .edges) (j .arrays)
-  pub from-in : originAt (j .sources) first < j .arrays
-  pub goal-in : originAt (j .sources) later < j .arrays
-  pub reached : reachedIn (j .edges) (j .arrays) (valueAt (j .sources) first) (originAt (j .sources) later) (originAt (j .sources) first) ≡ true
-
-pub ready : (j : Judged) → Judgeable j → (first later : ℕ) → pairIn (j .sources) (j .rows) ≡ some (record { first = first; later = later }) → Ready j first later
-ready j known first later pair =
-    let facts = pair-facts (j .sources) (j .rows) (record { first = first; later = later }) pair in
-    let made = known .judged in
-    let few = known .valid .arrays-most in
-    let ends : Ends (j .edges) (known .terms .arrays) = record { edges = made .edges .few; arrays = few; left = made .edges .lefts; right = made .edges .rights } in
-    let first-origin = made .sources .origins first (facts .0) in
-    let later-origin = made .sources .origins later (facts .1) in
+-- a pair of a ruling is ready for its literals
+pub ready : (s : Sources) (e : Edges) (n : ℕ) (r : Ruling) → Judgeable s e n r → (first later : ℕ) → foundOf (r .found) ≡ some (record { first = first; later = later })
+    → Ready s e n first later
+ready s e n r known first later found =
+    let words = known .words in
+    let facts = pair-facts s words (record { first = first; later = later }) (sym (known .ruled .found) ∙ found) in
+    let fit = known .fit in
+    let first-origin = fit .origin first (facts .0) in
     let there =
-    bit-reached (j .edges) (known .terms .arrays) (valueAt (j .sources) first) (originAt (j .sources) first) (getD (j .rows) first 0) (originAt (j .sources) later)
-    (made .rows first (facts .0)) (clash-bit (j .sources) (j .rows) first later (facts .2)) in
-    let back = reached-back (j .edges) (known .terms .arrays) (valueAt (j .sources) first) (originAt (j .sources) first) (originAt (j .sources) later) ends first-origin there in
+    bit-reached e n (valueAt s first) (originAt s first) (getD words first 0) (originAt s later) (known .ruled .rows first (facts .0)) (clash-bit s words first later (facts .2)) in
     record {
-      first-in = omega (arith, facts .0, made .sources .few);
-      later-in = omega (arith, facts .1, made .sources .few);
-      ends = subst (Ends (j .edges)) (sym (made .arrays)) ends;
-      from-in = subst (λ (n : ℕ). originAt (j .sources) first < n) (sym (made .arrays)) first-origin;
-      goal-in = subst (λ (n : ℕ). originAt (j .sources) later < n) (sym (made .arrays)) later-origin;
-      reached = subst (λ (n : ℕ). reachedIn (j .edges) n (valueAt (j .sources) first) (originAt (j .sources) later) (originAt (j .sources) first) ≡ true) (sym (made .arrays)) back;
+      first-in = omega (arith, facts .0, fit .sources);
+      later-in = omega (arith, facts .1, fit .sources);
+      ends = fit .ends;
+      from-in = first-origin;
+      goal-in = fit .origin later (facts .1);
+      reached = reached-back e n (valueAt s first) (originAt s first) (originAt s later) (fit .ends) first-origin there;
     }

@@ -32,12 +32,12 @@ use Rattle.lemma.proofs.Taken.{pairAt}
 use Rattle.checker.specs.declared.Judged.{Judged}
 use Rattle.checker.specs.declared.Written.{Written}
 use Rattle.checker.specs.declared.Written.the-variants.{Refused as NotWritten, Clauses}
-use Rattle.checker.specs.Judged.{JudgedFrom, Between, WrittenIn, clausesIn}
+use Rattle.checker.specs.Judged.{JudgedFrom, Between, WrittenIn}
 use Rattle.checker.specs.Reports.{writeReportOf, writeReported, WrittenAs}
 use Rattle.checker.proofs.Answers.{pair-is, lemma-between}
 
 module _ (bytes : List ℕ) (t : Terms) (g : Guess) (valid : Valid t g) (loaded : load 32 bytes ≡ Load.accepted (queryOf t g)) (j : Judged) (made : JudgedFrom t g j)
-    (before after : List ℤ) (r : Written) (wrote : WrittenIn j before after r) where
+    (before after : List ℤ) (r : Written) (wrote : WrittenIn (j .sources) (j .edges) (j .arrays) (j .bases) (j .booleans) (j .found) before after r) where
   quiet-write : foundOf (j .found) ≡ none → WrittenAs (writeClauses 32 bytes (length before)) before after r
   quiet-write nothing =
       let answer = wrote .quiet nothing in

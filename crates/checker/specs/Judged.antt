@@ -3,6 +3,7 @@
 use Prim.Native.Nat.{ℕ, _+_, _*_, _^_, _<_, _≤_}
 use mathlib.Core.Path.{_≡_}
 use mathlib.Core.Logic.{_⊎_, _≢_}
+use mathlib.Core.Bool.{true}
 use mathlib.Core.List.{List, map}
 use mathlib.Core.Option.{none, some}
 use lib.IntN.{ℤ}
@@ -20,13 +21,15 @@ use Rattle.terms.specs.declared.Edges.{Edges}
 use Rattle.terms.specs.Table.{queryOf}
 use Rattle.terms.specs.Valid.{Valid}
 use Rattle.terms.specs.Rows.{SourcesFrom, EdgesFrom}
-use Rattle.reach.specs.Reached.{originAt, valueAt, RowOf, pairsOf}
+use Rattle.reach.specs.Reached.{reachedIn, originAt, valueAt, RowOf, pairsOf, Ends, Fit}
+use Rattle.lemma.specs.declared.Found.{Found}
 use Rattle.lemma.specs.declared.Path.{Path}
 use Rattle.lemma.specs.declared.Literals.{Literals}
 use Rattle.lemma.specs.Pairs.{Numbers, pairIn, foundOf}
 use Rattle.lemma.specs.Steps.{PathOf}
 use Rattle.lemma.specs.Literals.{literalsOf, LemmaOf}
 use Rattle.checker.specs.declared.Judged.{Judged}
+use Rattle.checker.specs.declared.Ruling.{Ruling}
 use Rattle.checker.specs.declared.Examined.{Examined}
 use Rattle.checker.specs.declared.Checked.{Checked}
 use Rattle.checker.specs.declared.Checked.the-variants.{Refused, Consistent, Conflict}
@@ -47,54 +50,68 @@ pub record JudgedFrom (t : Terms) (g : Guess) (j : Judged) : Type 0 where
   pub pairs : j .pairs ≡ sum (map (pairsOf (j .edges) (j .sources) (t .arrays)) (range 0 (j .sources .count)))
   pub found : foundOf (j .found) ≡ pairIn (j .sources) (j .rows)
 
+-- what is ruled on tables with these rows of marks
+pub record Ruled (s : Sources) (e : Edges) (n : ℕ) (words : List ℕ) (r : Ruling) : Type 0 where
+  pub rows : (k : ℕ) → k < s .count → RowOf e n (valueAt s k) (originAt s k) (getD words k 0)
+  pub pairs : r .pairs ≡ sum (map (pairsOf e s n) (range 0 (s .count)))
+  pub found : foundOf (r .found) ≡ pairIn s words
+
+-- tables that fit together, with what is ruled on them for some rows of marks
+pub record Judgeable (s : Sources) (e : Edges) (n : ℕ) (r : Ruling) : Type 0 where
+  pub fit : Fit e s n
+  pub words : List ℕ
+  pub ruled : Ruled s e n words r
+
+-- what the literals between two sources need: both stand in the tables, and one's origin is reached from the other's
+pub record Ready (s : Sources) (e : Edges) (n first later : ℕ) : Type 0 where
+  pub first-in : first < 304
+  pub later-in : later < 304
+  pub ends : Ends e n
+  pub from-in : originAt s first < n
+  pub goal-in : originAt s later < n
+  pub reached : reachedIn e n (valueAt s first) (originAt s later) (originAt s first) ≡ true
+
 -- the literals of the lemma for sources i and j: those of a path between their origins
 pub record Between (e : Edges) (s : Sources) (n i j : ℕ) (literals : Literals) : Type 0 where
   pub walk : Path
   pub walked : PathOf e (valueAt s i) n (originAt s i) (originAt s j) walk
   pub made : LemmaOf e walk (getD (s .index) i 0) (getD (s .index) j 0) (getD (s .value) i 0) (getD (s .value) j 0) literals
 
--- tables that some valid terms and guess gave
-pub record Judgeable (j : Judged) : Type 0 where
-  pub terms : Terms
-  pub guess : Guess
-  pub valid : Valid terms guess
-  pub judged : JudgedFrom terms guess j
-
--- what a check concludes from the tables: with no pair, consistent; with one, its lemma's bytes, or 10 where there is no room for them
-pub record Concluded (j : Judged) (before after : List ℕ) (r : Checked) : Type 0 where
-  pub quiet : foundOf (j .found) ≡ none → (r ≡ Consistent (j .pairs)) × (after ≡ before)
-  pub clash : (numbers : Numbers) → foundOf (j .found) ≡ some numbers
+-- what a check concludes from a ruling: with no pair, consistent; with one, its lemma's bytes, or 10 where there is no room for them
+pub record Concluded (s : Sources) (e : Edges) (n : ℕ) (ruling : Ruling) (before after : List ℕ) (r : Checked) : Type 0 where
+  pub quiet : foundOf (ruling .found) ≡ none → (r ≡ Consistent (ruling .pairs)) × (after ≡ before)
+  pub clash : (numbers : Numbers) → foundOf (ruling .found) ≡ some numbers
       → (literals : Literals)
-      × Between (j .edges) (j .sources) (j .arrays) (numbers .first) (numbers .later) literals
+      × Between e s n (numbers .first) (numbers .later) literals
       × (((length (lemmaBytes (literalsOf literals)) ≤ length before)
-      × (r ≡ Conflict (j .pairs) (length (lemmaBytes (literalsOf literals))))
+      × (r ≡ Conflict (ruling .pairs) (length (lemmaBytes (literalsOf literals))))
       × (after ≡ writtenOver before (lemmaBytes (literalsOf literals))))
       ⊎ ((length before < length (lemmaBytes (literalsOf literals))) × (r ≡ Refused (record { number = 10; offset = 0 })) × (after ≡ before)))
 
 -- what a lookup finds in the tables: 12 with a pair; else 11 where the array or the index is none, and the model's value
-pub record LookedIn (j : Judged) (a x : ℕ) (r : Looked) : Type 0 where
-  pub clash : (numbers : Numbers) → foundOf (j .found) ≡ some numbers → r ≡ NotLooked (record { number = 12; offset = 0 })
-  pub no-array : foundOf (j .found) ≡ none → j .arrays ≤ a → r ≡ NotLooked (record { number = 11; offset = 0 })
-  pub no-index : foundOf (j .found) ≡ none → a < j .arrays → 2 ^ 32 ≤ x → r ≡ NotLooked (record { number = 11; offset = 0 })
-  pub cell : foundOf (j .found) ≡ none → a < j .arrays → x < 2 ^ 32 → r ≡ Value (modelIn (j .sources) (j .rows) a x)
+pub record LookedIn (s : Sources) (words : List ℕ) (n : ℕ) (found : Found) (a x : ℕ) (r : Looked) : Type 0 where
+  pub clash : (numbers : Numbers) → foundOf found ≡ some numbers → r ≡ NotLooked (record { number = 12; offset = 0 })
+  pub no-array : foundOf found ≡ none → n ≤ a → r ≡ NotLooked (record { number = 11; offset = 0 })
+  pub no-index : foundOf found ≡ none → a < n → 2 ^ 32 ≤ x → r ≡ NotLooked (record { number = 11; offset = 0 })
+  pub cell : foundOf found ≡ none → a < n → x < 2 ^ 32 → r ≡ Value (modelIn s words a x)
 
 -- what the clause writer writes from the tables: 12 with no pair; with one, its lemma's clauses, or 10 where there is no room for them
-abbrev pub clausesIn : Judged → Literals → List (List ℤ)
-clausesIn j literals = clausesOf 32 (j .bases) (j .booleans) (literalsOf literals)
+abbrev pub clausesIn : (bases booleans : ℕ) → Literals → List (List ℤ)
+clausesIn bases booleans literals = clausesOf 32 bases booleans (literalsOf literals)
 
-pub record WrittenIn (j : Judged) (before after : List ℤ) (r : Written) : Type 0 where
-  pub quiet : foundOf (j .found) ≡ none → (r ≡ NotWritten (record { number = 12; offset = 0 })) × (after ≡ before)
-  pub clash : (numbers : Numbers) → foundOf (j .found) ≡ some numbers
+pub record WrittenIn (s : Sources) (e : Edges) (n bases booleans : ℕ) (found : Found) (before after : List ℤ) (r : Written) : Type 0 where
+  pub quiet : foundOf found ≡ none → (r ≡ NotWritten (record { number = 12; offset = 0 })) × (after ≡ before)
+  pub clash : (numbers : Numbers) → foundOf found ≡ some numbers
       → (literals : Literals)
-      × Between (j .edges) (j .sources) (j .arrays) (numbers .first) (numbers .later) literals
-      × (((length (run (clausesIn j literals)) ≤ length before)
+      × Between e s n (numbers .first) (numbers .later) literals
+      × (((length (run (clausesIn bases booleans literals)) ≤ length before)
       × (r ≡ Clauses (record {
-        variables = 32 * j .bases + j .booleans + freshCount 32 (literalsOf literals);
-        clauses = length (clausesIn j literals);
-        count = length (run (clausesIn j literals));
+        variables = 32 * bases + booleans + freshCount 32 (literalsOf literals);
+        clauses = length (clausesIn bases booleans literals);
+        count = length (run (clausesIn bases booleans literals));
       }))
-      × (after ≡ writtenOver before (run (clausesIn j literals))))
-      ⊎ ((length before < length (run (clausesIn j literals))) × (r ≡ NotWritten (record { number = 10; offset = 0 })) × (after ≡ before)))
+      × (after ≡ writtenOver before (run (clausesIn bases booleans literals))))
+      ⊎ ((length before < length (run (clausesIn bases booleans literals))) × (r ≡ NotWritten (record { number = 10; offset = 0 })) × (after ≡ before)))
 
 -- what examining bytes gives: their refusal, or the tables of the query that they are accepted as
 pub record ExaminedFrom (bytes : List ℕ) (r : Examined) : Type 0 where

@@ -1,11 +1,9 @@
 // The public functions: a check of one query, a lookup of one cell of its model, and its clauses. They take any bytes and any lent buffer.
 ghost use mathlib.Core.Path.{_≡_};
-ghost use mathlib.Core.Option.{some};
-ghost use Rattle.terms.specs.Rows.{Loadable};
-ghost use Rattle.lemma.specs.Pairs.{pairIn};
+ghost use Rattle.reach.specs.Reached.{Fit};
 ghost use Prim.Native.Nat.{_<_, _≤_};
 ghost use Rattle.checker.specs.Held.{holdsOf, modelIn};
-ghost use Rattle.checker.specs.Judged.{JudgedFrom, Judgeable, Between, Concluded, LookedIn, WrittenIn, ExaminedFrom};
+ghost use Rattle.checker.specs.Judged.{Ruled, Judgeable, Ready, Between, Concluded, LookedIn, WrittenIn, ExaminedFrom};
 ghost use Rattle.checker.specs.Reports.{CheckedAs, lookReportOf, lookReported, WrittenAs};
 ghost use Rattle.paper.specs.Answers as Paper;
 ghost use lib.ListN.{length};
@@ -13,9 +11,7 @@ use lemma::Found;
 use lemma::Literals;
 use query::Refusal;
 use terms::Edges;
-use terms::Guess;
 use terms::Sources;
-use terms::Terms;
 
 // "the answer is longer than the lent buffer"
 const NO_ROOM: u8 = 10;
@@ -59,49 +55,34 @@ pub enum Written {
     Clauses(Totals),
 }
 
-// What the terms and the guess come to: sources, edges, rows of marks, the counts of the terms, the pairs, and the conflicting pair.
-pub struct Judged {
-    pub sources: Sources,
-    pub edges: Edges,
-    pub rows: [u64; 304],
-    pub arrays: usize,
-    pub bases: usize,
-    pub booleans: usize,
+// What is ruled on the tables: the pairs, and the conflicting pair.
+pub struct Ruling {
     pub pairs: usize,
     pub found: Found,
 }
 
-fn judge(terms: Terms, guess: Guess) -> Judged
-    requires { ⌜ Loadable terms guess ⌝ }
-    ensures { λ r. ⌜ JudgedFrom terms guess r ⌝ }
+// Marks the rows of the sources, and rules.
+fn judge(edges: Edges, sources: Sources, arrays: usize, rows: &mut [u64; 304]) -> Ruling
+    requires { ⌜ Fit edges sources arrays ⌝ }
+    ensures { λ r. ⌜ Ruled sources edges arrays (now (rows .exit)) r ⌝ }
 {
-    let sources = terms::graph::sources(terms, guess);
-    let edges = terms::graph::edges(terms, guess);
-    let arrays = terms.arrays;
-    let mut rows = [0u64; 304];
     let mut next = [0u16; 304];
-    let pairs = reach::mark(edges, sources, arrays, &mut rows, &mut next);
-    let found = lemma::first_pair(sources, &rows, &next);
-    Judged {
-        sources,
-        edges,
-        rows,
-        arrays,
-        bases: terms.bases,
-        booleans: terms.booleans,
-        pairs,
-        found,
-    }
+    let pairs = reach::mark(edges, sources, arrays, rows, &mut next);
+    let found = lemma::first_pair(sources, rows, &next);
+    Ruling { pairs, found }
 }
 
 // The literals of the lemma for a conflicting pair: hop counts are only made here, where there is a conflict.
-fn literals_between(judged: Judged, first: usize, later: usize) -> Literals
-    requires { ⌜ Judgeable judged × (pairIn (judged .sources) (judged .rows) ≡ some (record { first = first; later = later })) ⌝ }
-    ensures { λ r. ⌜ Between (judged .edges) (judged .sources) (judged .arrays) first later r ⌝ }
+fn literals_between(
+    sources: Sources,
+    edges: Edges,
+    arrays: usize,
+    first: usize,
+    later: usize,
+) -> Literals
+    requires { ⌜ Ready sources edges arrays first later ⌝ }
+    ensures { λ r. ⌜ Between edges sources arrays first later r ⌝ }
 {
-    let sources = judged.sources;
-    let edges = judged.edges;
-    let arrays = judged.arrays;
     let x = sources.index_value[first];
     let from = sources.origin[first] as usize;
     let goal = sources.origin[later] as usize;
@@ -114,16 +95,22 @@ fn literals_between(judged: Judged, first: usize, later: usize) -> Literals
     lemma::literals_of(edges, path, index, later_index, value, later_value)
 }
 
-// The answer of a check, once the tables are judged.
-fn conclude(judged: Judged, answer: &mut [u8]) -> Checked
-    requires { ⌜ Judgeable judged ⌝ }
-    ensures { λ r. ⌜ Concluded judged (now (answer .entry)) (now (answer .exit)) r ⌝ }
+// The answer of a check, once there is a ruling.
+fn conclude(
+    sources: Sources,
+    edges: Edges,
+    arrays: usize,
+    ruling: Ruling,
+    answer: &mut [u8],
+) -> Checked
+    requires { ⌜ Judgeable sources edges arrays ruling ⌝ }
+    ensures { λ r. ⌜ Concluded sources edges arrays ruling (now (answer .entry)) (now (answer .exit)) r ⌝ }
 {
-    let found = judged.found;
+    let found = ruling.found;
     match found {
-        Found::Nothing => Checked::Consistent(judged.pairs),
+        Found::Nothing => Checked::Consistent(ruling.pairs),
         Found::Pair(first, later) => {
-            let literals = literals_between(judged, first, later);
+            let literals = literals_between(sources, edges, arrays, first, later);
             let length = lemma::lemma_length(literals);
             if answer.len() < length {
                 return Checked::Refused(Refusal {
@@ -132,7 +119,7 @@ fn conclude(judged: Judged, answer: &mut [u8]) -> Checked
                 });
             }
             let written = lemma::put_lemma(literals, answer);
-            Checked::Conflict(judged.pairs, written)
+            Checked::Conflict(ruling.pairs, written)
         }
     }
 }
@@ -149,8 +136,12 @@ pub fn check(query: &[u8], answer: &mut [u8]) -> Checked
     }
     let terms = loaded.terms;
     let guess = loaded.guess;
-    let judged = judge(terms, guess);
-    conclude(judged, answer)
+    let arrays = terms.arrays;
+    let sources = terms::graph::sources(terms, guess);
+    let edges = terms::graph::edges(terms, guess);
+    let mut rows = [0u64; 304];
+    let ruling = judge(edges, sources, arrays, &mut rows);
+    conclude(sources, edges, arrays, ruling, answer)
 }
 
 // Does a source of this index value and row reach the array term with the index?
@@ -165,16 +156,14 @@ fn holds(value: u64, index: u64, row: u64, array: usize) -> bool
 }
 
 // The model's value: that of the first source that reaches the array term with the index value, and 0 where there is none.
-fn value_at(judged: Judged, array: usize, index: u64) -> u64
-    requires { ⌜ (array < 48) × (judged .sources .count ≤ 304) ⌝ }
-    ensures { λ r. ⌜ r ≡ modelIn (judged .sources) (judged .rows) array index ⌝ }
+fn value_at(sources: Sources, rows: &[u64; 304], array: usize, index: u64) -> u64
+    requires { ⌜ (array < 48) × (sources .count ≤ 304) ⌝ }
+    ensures { λ r. ⌜ r ≡ modelIn sources (now (rows .entry)) array index ⌝ }
 {
-    let sources = judged.sources;
-    let rows = judged.rows;
     let count = sources.count;
     let mut k = 0;
     while k < count {
-        if holds(sources.index_value[k], index, reach::row(&rows, k), array) {
+        if holds(sources.index_value[k], index, reach::row(rows, k), array) {
             return sources.assigned[k];
         }
         k += 1;
@@ -182,19 +171,26 @@ fn value_at(judged: Judged, array: usize, index: u64) -> u64
     UNREACHED
 }
 
-// The answer of a lookup, once the tables are judged: 12, then 11.
-fn look(judged: Judged, array: u64, index: u64) -> Looked
-    requires { ⌜ Judgeable judged ⌝ }
-    ensures { λ r. ⌜ LookedIn judged array index r ⌝ }
+// The answer of a lookup, once there is a ruling: 12, then 11.
+fn look(
+    sources: Sources,
+    rows: &[u64; 304],
+    arrays: usize,
+    ruling: Ruling,
+    array: u64,
+    index: u64,
+) -> Looked
+    requires { ⌜ (arrays ≤ 48) × (sources .count ≤ 304) ⌝ }
+    ensures { λ r. ⌜ LookedIn sources (now (rows .entry)) arrays (ruling .found) array index r ⌝ }
 {
-    let found = judged.found;
+    let found = ruling.found;
     match found {
         Found::Pair(_, _) => Looked::Refused(Refusal {
             number: OTHER_VERDICT,
             offset: 0,
         }),
         Found::Nothing => {
-            if judged.arrays as u64 <= array {
+            if arrays as u64 <= array {
                 return Looked::Refused(Refusal {
                     number: NO_CELL,
                     offset: 0,
@@ -207,7 +203,7 @@ fn look(judged: Judged, array: u64, index: u64) -> Looked
                 });
             }
             let place = array as usize;
-            Looked::Value(value_at(judged, place, index))
+            Looked::Value(value_at(sources, rows, place, index))
         }
     }
 }
@@ -224,23 +220,35 @@ pub fn lookup(query: &[u8], array: u64, index: u64) -> Looked
     }
     let terms = loaded.terms;
     let guess = loaded.guess;
-    let judged = judge(terms, guess);
-    look(judged, array, index)
+    let arrays = terms.arrays;
+    let sources = terms::graph::sources(terms, guess);
+    let edges = terms::graph::edges(terms, guess);
+    let mut rows = [0u64; 304];
+    let ruling = judge(edges, sources, arrays, &mut rows);
+    look(sources, &rows, arrays, ruling, array, index)
 }
 
-// The answer of the clause writer, once the tables are judged: 12, then 10.
-fn write(judged: Judged, numbers: &mut [i32]) -> Written
-    requires { ⌜ Judgeable judged ⌝ }
-    ensures { λ r. ⌜ WrittenIn judged (now (numbers .entry)) (now (numbers .exit)) r ⌝ }
+// The answer of the clause writer, once there is a ruling: 12, then 10.
+fn write(
+    sources: Sources,
+    edges: Edges,
+    arrays: usize,
+    bases: usize,
+    booleans: usize,
+    ruling: Ruling,
+    numbers: &mut [i32],
+) -> Written
+    requires { ⌜ Judgeable sources edges arrays ruling × (bases ≤ 256) × (booleans ≤ 64) ⌝ }
+    ensures { λ r. ⌜ WrittenIn sources edges arrays bases booleans (ruling .found) (now (numbers .entry)) (now (numbers .exit)) r ⌝ }
 {
-    let found = judged.found;
+    let found = ruling.found;
     match found {
         Found::Nothing => Written::Refused(Refusal {
             number: OTHER_VERDICT,
             offset: 0,
         }),
         Found::Pair(first, later) => {
-            let literals = literals_between(judged, first, later);
+            let literals = literals_between(sources, edges, arrays, first, later);
             let counts = cnf::counts(literals, WIDTH);
             if numbers.len() < counts.numbers {
                 return Written::Refused(Refusal {
@@ -248,8 +256,6 @@ fn write(judged: Judged, numbers: &mut [i32]) -> Written
                     offset: 0,
                 });
             }
-            let bases = judged.bases;
-            let booleans = judged.booleans;
             let count = cnf::put_clauses(literals, bases, booleans, WIDTH, numbers);
             let variables = WIDTH * bases + booleans + counts.fresh;
             Written::Clauses(Totals {
@@ -273,8 +279,26 @@ pub fn clauses(query: &[u8], numbers: &mut [i32]) -> Written
     }
     let terms = loaded.terms;
     let guess = loaded.guess;
-    let judged = judge(terms, guess);
-    write(judged, numbers)
+    let arrays = terms.arrays;
+    let sources = terms::graph::sources(terms, guess);
+    let edges = terms::graph::edges(terms, guess);
+    let mut rows = [0u64; 304];
+    let ruling = judge(edges, sources, arrays, &mut rows);
+    let bases = terms.bases;
+    let booleans = terms.booleans;
+    write(sources, edges, arrays, bases, booleans, ruling, numbers)
+}
+
+// What the terms and the guess come to: sources, edges, rows of marks, the counts of the terms, the pairs, and the conflicting pair.
+pub struct Judged {
+    pub sources: Sources,
+    pub edges: Edges,
+    pub rows: [u64; 304],
+    pub arrays: usize,
+    pub bases: usize,
+    pub booleans: usize,
+    pub pairs: usize,
+    pub found: Found,
 }
 
 // What a query comes to: its refusal with the offset, or 0 and the tables. For a program that prints the cells of the model.
@@ -326,10 +350,24 @@ pub fn examine(query: &[u8]) -> Examined
     }
     let terms = loaded.terms;
     let guess = loaded.guess;
-    let judged = judge(terms, guess);
+    let arrays = terms.arrays;
+    let sources = terms::graph::sources(terms, guess);
+    let edges = terms::graph::edges(terms, guess);
+    let mut rows = [0u64; 304];
+    let ruling = judge(edges, sources, arrays, &mut rows);
+    let found = ruling.found;
     Examined {
         refusal: 0,
         offset: 0,
-        judged,
+        judged: Judged {
+            sources,
+            edges,
+            rows,
+            arrays,
+            bases: terms.bases,
+            booleans: terms.booleans,
+            pairs: ruling.pairs,
+            found,
+        },
     }
 }

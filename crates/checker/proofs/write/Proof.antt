@@ -2,9 +2,10 @@
 -- Assumes nothing.
 use Rattle.lemma.specs.Pairs.{foundOf}
 use denote.Ref.{now}
+use Rattle.checker.proofs.Facts.{ready}
 use Rattle.checker.proofs.Concluding.{writes-quiet, writes-short, writes-clauses}
 use Rattle.checker.proofs.Sizes.{fresh-small}
-use mathlib.Core.Path.{sym, ap, _∙_, subst}
+use mathlib.Core.Path.{ap, subst}
 use Prim.Native.Nat.{ℕ, _+_, _*_, _<_, _≤_}
 use native.Mathlib.Omega.{arith}
 use borrow.Author.Needs.{needs}
@@ -21,7 +22,7 @@ enum-known-found c = search needs
 literals-between-requires : tie.Need-literals-between-requires
 literals-between-requires c κs =
     let start = c .before .before .before in
-    (start .pre, sym (start .pre .judged .found) ∙ ap foundOf (c .before .found .given .1))
+    ready _ _ _ _ (start .pre .0) _ _ (ap foundOf (c .before .found .given .1))
 
 counts-requires : tie.Need-counts-requires
 counts-requires c κs = search needs
@@ -30,17 +31,17 @@ returns : tie.Need-returns
 returns c =
     let start = c .before .before .before .before .before .before .before in
     let before = now (start .args .numbers) in
-    let counted = c .before .before .counts .ensures .1 .1 (start .args .judged .bases) (start .args .judged .booleans) in
-    writes-short _ _ (ap foundOf (c .before .before .before .before .before .found .given .1)) _ (c .before .before .before .literals-between .ensures) before (subst (λ (n : ℕ). length before < n) counted (c .if1 .taken))
+    let counted = c .before .before .counts .ensures .1 .1 (start .args .bases) (start .args .booleans) in
+    writes-short _ _ _ _ _ _ _ (ap foundOf (c .before .before .before .before .before .found .given .1)) _ (c .before .before .before .literals-between .ensures) before (subst (λ (n : ℕ). length before < n) counted (c .if1 .taken))
 
 put-clauses-requires : tie.Need-put-clauses-requires
 put-clauses-requires c κs =
     let start = c .before .before .before .before .before .before .before .before in
     let known = start .pre in
-    let counted = c .before .before .before .counts .ensures .1 .1 (start .args .judged .bases) (start .args .judged .booleans) in (
+    let counted = c .before .before .before .counts .ensures .1 .1 (start .args .bases) (start .args .booleans) in (
       c .before .before .before .before .literals-between .ensures .made .proper .most,
-      omega (arith, known .judged .bases, known .valid .bases-most),
-      omega (arith, known .judged .booleans, known .valid .booleans-most),
+      known .1,
+      known .2,
       omega arith,
       subst (λ (n : ℕ). n ≤ length (now (start .args .numbers))) counted (c .before .if1 .left),
     )
@@ -57,16 +58,14 @@ add-variables-2 c =
     let between = c .before .before .before .before .before .before .before .literals-between in
     omega (
       arith,
-      known .judged .bases,
-      known .judged .booleans,
-      known .valid .bases-most,
-      known .valid .booleans-most,
+      known .1,
+      known .2,
       c .before .before .before .before .before .before .counts .ensures .1 .0,
       fresh-small (between .result) (between .ensures .made .proper .most),
     )
 
 returns-2 : tie.Need-returns-2
-returns-2 c = writes-quiet _ (ap foundOf (c .enum-told .given .1)) _
+returns-2 c = writes-quiet _ _ _ _ _ _ (ap foundOf (c .enum-told .given .1)) _
 
 same-length : tie.Need-same-length
 same-length c = search needs
@@ -75,12 +74,12 @@ returns-3 : tie.Need-returns-3
 returns-3 c =
     let start = c .before .before .before .before .before .before .before .before .before .before .before in
     let before = now (start .args .numbers) in
-    let bases = start .args .judged .bases in
-    let booleans = start .args .judged .booleans in
+    let bases = start .args .bases in
+    let booleans = start .args .booleans in
     let counted = c .before .before .before .before .before .before .counts .ensures in
     let put = c .before .before .put-clauses in
     let fits = subst (λ (n : ℕ). n ≤ length before) (counted .1 .1 bases booleans) (c .before .before .before .before .if1 .left) in
-    writes-clauses _ _ (ap foundOf (c .before .before .before .before .before .before .before .before .before .found .given .1)) _ (c .before .before .before .before .before .before .before .literals-between .ensures) before _ _ _ _ fits
+    writes-clauses _ _ _ bases booleans _ _ (ap foundOf (c .before .before .before .before .before .before .before .before .before .found .given .1)) _ (c .before .before .before .before .before .before .before .literals-between .ensures) before _ _ _ _ fits
     (ap (λ (n : ℕ). 32 * bases + booleans + n) (counted .1 .0))
     (counted .0 bases booleans)
     (put .ensures .1)
