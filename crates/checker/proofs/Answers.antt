@@ -30,7 +30,7 @@ use Rattle.terms.specs.declared.Edges.{Edges}
 use Rattle.terms.specs.Rows.{Loadable, SourcesFrom, EdgesFrom}
 use Rattle.terms.proofs.Prefix.{loadable}
 use Rattle.lemma.specs.declared.Literals.{Literals}
-use Rattle.lemma.specs.Pairs.{Numbers, foundOf, pairIn}
+use Rattle.lemma.specs.Pairs.{Numbers, foundOf, pairIn, sourcesBy}
 use Rattle.lemma.specs.Steps.{PathOf}
 use Rattle.lemma.specs.Literals.{literalsOf}
 use Rattle.reach.specs.Reached.{originAt, valueAt, Fit}
@@ -41,7 +41,7 @@ use Rattle.checker.specs.declared.Checked.the-variants.{Refused, Consist
 use Rattle.checker.specs.declared.Looked.the-variants.{Refused as NotLooked, Value}
 use Rattle.checker.specs.declared.Written.the-variants.{Refused as NotWritten, Clauses}
 use Rattle.checker.specs.declared.Ruling.{Ruling}
-use Rattle.checker.specs.Judged.{JudgedFrom, Ruled, Between, Concluded}
+use Rattle.checker.specs.Judged.{JudgedFrom, Ruled, Judgeable, Between, Concluded}
 use Rattle.checker.specs.Reports.{reportOf, CheckedAs, lookReportOf, lookReported, WrittenAs}
 use Rattle.checker.proofs.Joined.{pairs-same, conflict-same, lemma-same}
 use Rattle.checker.proofs.Facts.{pair-facts}
@@ -82,7 +82,7 @@ check-refused bytes before number offset is =
 
 -- the tables of loaded terms fit together, and a ruling on them makes them the paper's
 module _ (t : Terms) (g : Guess) (valid : Valid t g) (s : Sources) (e : Edges) (from-s : SourcesFrom t g s) (from-e : EdgesFrom t g e) where
-  pub tables-fit : Fit e s (t .arrays)
+  tables-fit : Fit e s (t .arrays)
   tables-fit =
       record {
         ends = record { edges = from-e .few; arrays = valid .arrays-most; left = from-e .lefts; right = from-e .rights };
@@ -94,7 +94,16 @@ module _ (t : Terms) (g : Guess) (valid : Valid t g) (s : Sources) (e : Edges) (
   tables words r =
       record { sources = s; edges = e; rows = words; arrays = t .arrays; bases = t .bases; booleans = t .booleans; pairs = r .pairs; found = r .found }
 
-  pub tables-judged : (words : List ℕ) (r : Ruling) → Ruled s e (t .arrays) words r → JudgedFrom t g (tables words r)
+  -- the columns of the sources, as they are lent
+  abbrev pub lent : Sources
+  lent = sourcesBy (s .origin) (s .«index_value») (s .assigned) (s .count)
+
+  pub tables-judgeable : (words : List ℕ) (r : Ruling) → Ruled lent e (t .arrays) words r → Judgeable s e (t .arrays) r
+  unfolding pairIn
+  tables-judgeable words r ruled = record { fit = tables-fit; words = words; ruled = record { rows = ruled .rows; pairs = ruled .pairs; found = ruled .found } }
+
+  pub tables-judged : (words : List ℕ) (r : Ruling) → Ruled lent e (t .arrays) words r → JudgedFrom t g (tables words r)
+  unfolding pairIn
   tables-judged words r ruled =
       record { sources = from-s; edges = from-e; arrays = refl; bases = refl; booleans = refl; rows = ruled .rows; pairs = ruled .pairs; found = ruled .found }
 

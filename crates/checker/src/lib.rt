@@ -1,6 +1,7 @@
 // The public functions: a check of one query, a lookup of one cell of its model, and its clauses. They take any bytes and any lent buffer.
 ghost use mathlib.Core.Path.{_≡_};
 ghost use Rattle.reach.specs.Reached.{Fit};
+ghost use Rattle.lemma.specs.Pairs.{sourcesBy};
 ghost use Prim.Native.Nat.{_<_, _≤_};
 ghost use Rattle.checker.specs.Held.{holdsOf, modelIn};
 ghost use Rattle.checker.specs.Judged.{Ruled, Judgeable, Ready, Between, Concluded, LookedIn, WrittenIn, ExaminedFrom};
@@ -61,14 +62,22 @@ pub struct Ruling {
     pub found: Found,
 }
 
-// Marks the rows of the sources, and rules.
-fn judge(edges: Edges, sources: Sources, arrays: usize, rows: &mut [u64; 304]) -> Ruling
-    requires { ⌜ Fit edges sources arrays ⌝ }
-    ensures { λ r. ⌜ Ruled sources edges arrays (now (rows .exit)) r ⌝ }
+// Marks the rows of the sources, whose columns are lent, and rules.
+fn judge<'a>(
+    edges: Edges,
+    origins: &'a [u8; 304],
+    values: &'a [u64; 304],
+    assigned: &'a [u64; 304],
+    count: usize,
+    arrays: usize,
+    rows: &mut [u64; 304],
+) -> Ruling
+    requires { ⌜ Fit edges (sourcesBy (now origins) (now values) (now assigned) count) arrays ⌝ }
+    ensures { λ r. ⌜ Ruled (sourcesBy (now (origins .entry)) (now (values .entry)) (now (assigned .entry)) count) edges arrays (now (rows .exit)) r ⌝ }
 {
     let mut next = [0u16; 304];
-    let pairs = reach::mark(edges, sources, arrays, rows, &mut next);
-    let found = lemma::first_pair(sources, rows, &next);
+    let pairs = reach::mark(edges, origins, values, count, arrays, rows, &mut next);
+    let found = lemma::first_pair(origins, assigned, count, rows, &next);
     Ruling { pairs, found }
 }
 
@@ -140,7 +149,15 @@ pub fn check(query: &[u8], answer: &mut [u8]) -> Checked
     let sources = terms::graph::sources(terms, guess);
     let edges = terms::graph::edges(terms, guess);
     let mut rows = [0u64; 304];
-    let ruling = judge(edges, sources, arrays, &mut rows);
+    let ruling = judge(
+        edges,
+        &sources.origin,
+        &sources.index_value,
+        &sources.assigned,
+        sources.count,
+        arrays,
+        &mut rows,
+    );
     conclude(sources, edges, arrays, ruling, answer)
 }
 
@@ -224,7 +241,15 @@ pub fn lookup(query: &[u8], array: u64, index: u64) -> Looked
     let sources = terms::graph::sources(terms, guess);
     let edges = terms::graph::edges(terms, guess);
     let mut rows = [0u64; 304];
-    let ruling = judge(edges, sources, arrays, &mut rows);
+    let ruling = judge(
+        edges,
+        &sources.origin,
+        &sources.index_value,
+        &sources.assigned,
+        sources.count,
+        arrays,
+        &mut rows,
+    );
     look(sources, &rows, arrays, ruling, array, index)
 }
 
@@ -283,7 +308,15 @@ pub fn clauses(query: &[u8], numbers: &mut [i32]) -> Written
     let sources = terms::graph::sources(terms, guess);
     let edges = terms::graph::edges(terms, guess);
     let mut rows = [0u64; 304];
-    let ruling = judge(edges, sources, arrays, &mut rows);
+    let ruling = judge(
+        edges,
+        &sources.origin,
+        &sources.index_value,
+        &sources.assigned,
+        sources.count,
+        arrays,
+        &mut rows,
+    );
     let bases = terms.bases;
     let booleans = terms.booleans;
     write(sources, edges, arrays, bases, booleans, ruling, numbers)
@@ -354,7 +387,15 @@ pub fn examine(query: &[u8]) -> Examined
     let sources = terms::graph::sources(terms, guess);
     let edges = terms::graph::edges(terms, guess);
     let mut rows = [0u64; 304];
-    let ruling = judge(edges, sources, arrays, &mut rows);
+    let ruling = judge(
+        edges,
+        &sources.origin,
+        &sources.index_value,
+        &sources.assigned,
+        sources.count,
+        arrays,
+        &mut rows,
+    );
     let found = ruling.found;
     Examined {
         refusal: 0,

@@ -125,11 +125,14 @@ module _ (s : Sources) (rows : List ℕ) where
           (put (getD clear t false) refl (ℕ-discrete _ _) (ℕ-discrete _ _) (mark-put clear t new (ap (λ (n : ℕ). getD (set clear t new) n false) (sym here) ∙ marked)))
       go (no other) = all k above inside (sym (getD-set-other clear t k new false other) ∙ marked)
 
-  -- where the search of source i begins
-  pub begins : (i next : ℕ) (known : Bool) → i < s .count → (known ≡ true → Free i (s .count)) → NextOf s i next → (t : ℕ) → t ≡ cond known (s .count) next
-      → (i < t) × (t ≤ s .count) × (t < s .count → valueAt s t ≡ valueAt s i) × Free i t
-  begins i next true inside free link t is =
-      (omega arith, omega arith, (λ below. absurd (omega (arith, below, is))), (λ j above below. free refl j above (omega arith)))
-  begins i next false inside free link t is =
-      subst (λ (n : ℕ). (i < n) × (n ≤ s .count) × (n < s .count → valueAt s n ≡ valueAt s i) × Free i n) (sym is)
-      (link .later, link .within, link .same, free-link i i next refl link)
+  -- what the search of source i begins with
+  pub begins : (i next : ℕ) (known : Bool) → (known ≡ true → Free i (s .count)) → NextOf s i next → (t : ℕ) → t ≡ cond known (s .count) next
+      → (t < s .count → valueAt s t ≡ valueAt s i) × Free i t
+  begins i next true free link t is = ((λ below. absurd (omega (arith, below, is))), (λ j above below. free refl j above (omega arith)))
+  begins i next false free link t is =
+      subst (λ (n : ℕ). (n < s .count → valueAt s n ≡ valueAt s i) × Free i n) (sym is) (link .same, free-link i i next refl link)
+
+-- and where: later than source i, and within the table
+pub begins-at : (i next count : ℕ) (known : Bool) → i < count → i < next → next ≤ count → (t : ℕ) → t ≡ cond known count next → (i < t) × (t ≤ count)
+begins-at i next count true inside later within t is = (omega arith, omega arith)
+begins-at i next count false inside later within t is = (omega (arith, is), omega (arith, is))

@@ -44,8 +44,17 @@ abbrev pub foundOf : Found → Option Numbers
 foundOf (Pair i j) = some (record { first = i; later = j })
 foundOf Nothing = none
 
--- the table of sources is within its bounds, and each source is linked to the next of its index value
-pub record Linked (s : Sources) (links : List ℕ) : Type 0 where
-  pub sources : s .count ≤ 304
-  pub origin : (k : ℕ) → k < s .count → originAt s k < 48
-  pub next : (k : ℕ) → k < s .count → NextOf s k (getD links k 0)
+-- the sources that stand in columns
+abbrev pub sourcesBy : (origins values assigned : List ℕ) (count : ℕ) → Sources
+sourcesBy origins values assigned count = record { origin = origins; index = []; value = []; «index_value» = values; assigned = assigned; count = count }
+
+-- the columns are within their bounds, and each link leads on
+pub record Followed (origins : List ℕ) (count : ℕ) (links : List ℕ) : Type 0 where
+  pub sources : count ≤ 304
+  pub origin : (k : ℕ) → k < count → getD origins k 0 < 48
+  pub later : (k : ℕ) → k < count → k < getD links k 0
+  pub within : (k : ℕ) → k < count → getD links k 0 ≤ count
+
+-- each source is linked to the next of its index value
+abbrev pub Linked : Sources → (links : List ℕ) → Type 0
+Linked s links = (k : ℕ) → k < s .count → NextOf s k (getD links k 0)

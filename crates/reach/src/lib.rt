@@ -1,7 +1,6 @@
 // Marks: which array terms each source reaches over the edges open to its index value, how many pairs that makes, and hop counts.
 
 use terms::Edges;
-use terms::Sources;
 ghost use mathlib.Core.Path.{_≡_};
 ghost use Prim.Native.Nat.{ℕ, _^_, _<_, _≤_};
 ghost use lib.ListN.{length, getD, set};
@@ -184,17 +183,18 @@ fn unlink(next: &mut [u16], count: usize)
 
 // Marks from every source's origin over the edges open to its index value, to the fixpoint and in both directions; links each source to
 // the next of its index value; answers the number of pairs.
-pub fn mark(
+pub fn mark<'a>(
     edges: Edges,
-    sources: Sources,
+    origins: &'a [u8; 304],
+    values: &'a [u64; 304],
+    count: usize,
     arrays: usize,
     rows: &mut [u64; 304],
     next: &mut [u16; 304],
 ) -> usize
-    requires { ⌜ Fit edges sources arrays ⌝ }
-    ensures { λ r. ⌜ Marked edges sources arrays (now (rows .exit)) (now (next .exit)) r ⌝ }
+    requires { ⌜ Fit edges (sourcesOf (now origins) (now values) count) arrays ⌝ }
+    ensures { λ r. ⌜ Marked edges (sourcesOf (now (origins .entry)) (now (values .entry)) count) arrays (now (rows .exit)) (now (next .exit)) r ⌝ }
 {
-    let count = sources.count;
     let edge_count = edges.count;
     unlink(next, count);
     let mut pairs = 0usize;
@@ -202,7 +202,7 @@ pub fn mark(
     while first < count {
         let link = next[first];
         if link == 0 {
-            let x = sources.index_value[first];
+            let x = values[first];
             let neighbours = adjacency(
                 &edges.left,
                 &edges.right,
@@ -211,15 +211,7 @@ pub fn mark(
                 edge_count,
                 x,
             );
-            let marked = mark_value(
-                &neighbours,
-                &sources.origin,
-                &sources.index_value,
-                count,
-                first,
-                rows,
-                next,
-            );
+            let marked = mark_value(&neighbours, origins, values, count, first, rows, next);
             pairs = pairs + marked;
         }
         first += 1;

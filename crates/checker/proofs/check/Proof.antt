@@ -1,7 +1,7 @@
 -- A refused query by the loader's refusal; an accepted one by what is ruled on its tables.
 -- Assumes nothing.
 use borrow.Author.Needs.{needs}
-use Rattle.checker.proofs.Answers.{loaded-refused, loaded-accepted, loaded-fit, tables-fit, tables-judged, check-refused, check-concluded}
+use Rattle.checker.proofs.Answers.{loaded-refused, loaded-accepted, loaded-fit, tables-judgeable, tables-judged, check-refused, check-concluded}
 use Rattle.checker.proofs.check.Statement.{statement}
 use Rattle.checker.proofs.check.Tie as tie
 
@@ -27,18 +27,18 @@ judge-requires c κs = search needs
 
 conclude-requires : tie.Need-conclude-requires
 conclude-requires c κs =
-    let loaded = c .before .before .before .before .before .before .before .before .load in
-    let fit = tables-fit _ _ (loaded .ensures .1) _ _ (c .before .before .before .before .sources .ensures) (c .before .before .before .edges .ensures) in
-    record { fit = fit; words = _; ruled = c .before .judge .ensures }
+    let valid = c .before .before .before .before .before .before .before .before .before .before .before .before .load .ensures .1 in
+    let judgeable = tables-judgeable _ _ valid _ _ (c .before .before .before .before .before .before .before .before .sources .ensures) (c .before .before .before .before .before .before .before .edges .ensures) _ _ (c .before .judge .ensures) in
+    judgeable
 
 same-length : tie.Need-same-length
 same-length c = search needs
 
 returns-2 : tie.Need-returns-2
 returns-2 c =
-    let loaded = c .before .before .before .before .before .before .before .before .before .before .before .load in
-    let accepted = loaded-accepted _ (loaded .result) (loaded .ensures .0) (c .before .before .before .before .before .before .before .before .before .before .if1 .left) in
-    let made = tables-judged _ _ (loaded .ensures .1) _ _ (c .before .before .before .before .before .before .before .sources .ensures) (c .before .before .before .before .before .before .edges .ensures) _ _ (c .before .before .before .before .judge .ensures) in
+    let loaded = c .before .before .before .before .before .before .before .before .before .before .before .before .before .before .before .load in
+    let accepted = loaded-accepted _ (loaded .result) (loaded .ensures .0) (c .before .before .before .before .before .before .before .before .before .before .before .before .before .before .if1 .left) in
+    let made = tables-judged _ _ (loaded .ensures .1) _ _ (c .before .before .before .before .before .before .before .before .before .before .before .sources .ensures) (c .before .before .before .before .before .before .before .before .before .before .edges .ensures) _ _ (c .before .before .before .before .judge .ensures) in
     check-concluded _ _ _ (loaded .ensures .1) accepted _ made _ _ _ (c .before .before .conclude .ensures)
 
 pub check-spec : {M : Type 1} → statement M

@@ -1,7 +1,7 @@
 -- A refused query by the loader's refusal; an accepted one by what is ruled on its tables.
 -- Assumes nothing.
 use borrow.Author.Needs.{needs}
-use Rattle.checker.proofs.Answers.{loaded-refused, loaded-accepted, loaded-fit, tables-fit, tables-judged, write-refused}
+use Rattle.checker.proofs.Answers.{loaded-refused, loaded-accepted, loaded-fit, tables-judgeable, tables-judged, write-refused}
 use Rattle.checker.proofs.Runs.{write-concluded}
 use Rattle.checker.proofs.clauses.Statement.{statement}
 use Rattle.checker.proofs.clauses.Tie as tie
@@ -28,19 +28,18 @@ judge-requires c κs = search needs
 
 write-requires : tie.Need-write-requires
 write-requires c κs =
-    let loaded = c .before .before .before .before .before .before .before .before .load in
-    let fit = tables-fit _ _ (loaded .ensures .1) _ _ (c .before .before .before .before .sources .ensures) (c .before .before .before .edges .ensures) in
-    let valid = loaded .ensures .1 in
-    (record { fit = fit; words = _; ruled = c .before .judge .ensures }, valid .bases-most, valid .booleans-most)
+    let valid = c .before .before .before .before .before .before .before .before .before .before .before .before .load .ensures .1 in
+    let judgeable = tables-judgeable _ _ valid _ _ (c .before .before .before .before .before .before .before .before .sources .ensures) (c .before .before .before .before .before .before .before .edges .ensures) _ _ (c .before .judge .ensures) in
+    (judgeable, valid .bases-most, valid .booleans-most)
 
 same-length : tie.Need-same-length
 same-length c = search needs
 
 returns-2 : tie.Need-returns-2
 returns-2 c =
-    let loaded = c .before .before .before .before .before .before .before .before .before .before .load in
-    let accepted = loaded-accepted _ (loaded .result) (loaded .ensures .0) (c .before .before .before .before .before .before .before .before .before .if1 .left) in
-    let made = tables-judged _ _ (loaded .ensures .1) _ _ (c .before .before .before .before .before .before .sources .ensures) (c .before .before .before .before .before .edges .ensures) _ _ (c .before .before .before .judge .ensures) in
+    let loaded = c .before .before .before .before .before .before .before .before .before .before .before .before .before .before .load in
+    let accepted = loaded-accepted _ (loaded .result) (loaded .ensures .0) (c .before .before .before .before .before .before .before .before .before .before .before .before .before .if1 .left) in
+    let made = tables-judged _ _ (loaded .ensures .1) _ _ (c .before .before .before .before .before .before .before .before .before .before .sources .ensures) (c .before .before .before .before .before .before .before .before .before .edges .ensures) _ _ (c .before .before .before .judge .ensures) in
     write-concluded _ _ _ (loaded .ensures .1) accepted _ made _ _ _ (c .before .write .ensures)
 
 pub clauses-spec : {M : Type 1} → statement M

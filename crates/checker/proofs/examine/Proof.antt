@@ -34,9 +34,9 @@ judge-requires c κs = search needs
 
 returns-2 : tie.Need-returns-2
 returns-2 c =
-    let loaded = c .before .before .before .before .before .before .before .load in
-    let accepted = loaded-accepted _ (loaded .result) (loaded .ensures .0) (c .before .before .before .before .before .before .if1 .left) in
-    let made = tables-judged _ _ (loaded .ensures .1) _ _ (c .before .before .before .sources .ensures) (c .before .before .edges .ensures) _ _ (c .judge .ensures) in
+    let loaded = c .before .before .before .before .before .before .before .before .before .before .before .load in
+    let accepted = loaded-accepted _ (loaded .result) (loaded .ensures .0) (c .before .before .before .before .before .before .before .before .before .before .if1 .left) in
+    let made = tables-judged _ _ (loaded .ensures .1) _ _ (c .before .before .before .before .before .before .before .sources .ensures) (c .before .before .before .before .before .before .edges .ensures) _ _ (c .judge .ensures) in
     record {
       refused = λ some-number. absurd (some-number refl);
       accepted = λ none-number. (loaded .result .terms, loaded .result .guess, loaded .ensures .1, accepted, made);

@@ -31,9 +31,9 @@ look-requires c κs = search needs
 
 returns-2 : tie.Need-returns-2
 returns-2 c =
-    let loaded = c .before .before .before .before .before .before .before .before .before .load in
-    let accepted = loaded-accepted _ (loaded .result) (loaded .ensures .0) (c .before .before .before .before .before .before .before .before .if1 .left) in
-    let made = tables-judged _ _ (loaded .ensures .1) _ _ (c .before .before .before .before .before .sources .ensures) (c .before .before .before .before .edges .ensures) _ _ (c .before .before .judge .ensures) in
+    let loaded = c .before .before .before .before .before .before .before .before .before .before .before .before .before .load in
+    let accepted = loaded-accepted _ (loaded .result) (loaded .ensures .0) (c .before .before .before .before .before .before .before .before .before .before .before .before .if1 .left) in
+    let made = tables-judged _ _ (loaded .ensures .1) _ _ (c .before .before .before .before .before .before .before .before .before .sources .ensures) (c .before .before .before .before .before .before .before .before .edges .ensures) _ _ (c .before .before .judge .ensures) in
     look-concluded _ _ _ (loaded .ensures .1) accepted _ made _ _ _ (c .look .ensures)
 
 pub lookup-spec : {M : Type 1} → statement M

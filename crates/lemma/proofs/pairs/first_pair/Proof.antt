@@ -7,47 +7,62 @@ use native.Mathlib.Omega.{arith}
 use borrow.Author.Needs.{needs}
 use mathlib.Core.Path.{_≡_, refl, sym, ap, ap₂, _∙_, subst}
 use mathlib.Core.Bool.{Bool, false}
+use mathlib.Core.List.{List}
 use lib.ListN.{getD, set}
 use Rattle.terms.specs.declared.Sources.{Sources}
-use Rattle.reach.specs.Reached.{originAt, valueAt}
 use Rattle.lemma.specs.declared.Found.{Found}
-use Rattle.lemma.specs.Pairs.{clashOf, alikeOf, pairIn, foundOf}
-use Rattle.lemma.proofs.Pairing.{restFrom, Free, Cleared, Marked, rest-all, rest-end, rest-hit, rest-free, clash-at, free-over, cleared-first, marked-first, cleared-next, marked-put, begins}
+use Rattle.lemma.specs.Pairs.{clashOf, alikeOf, pairIn, foundOf, sourcesBy, Linked}
+use Rattle.lemma.proofs.Pairing.{restFrom, Free, Cleared, Marked, rest-all, rest-end, rest-hit, rest-free, clash-at, free-over, cleared-first, marked-first, cleared-next, marked-put, begins, begins-at}
 use Rattle.lemma.proofs.pairs.first_pair.Statement.{statement}
 use Rattle.lemma.proofs.pairs.first_pair.Tie as tie
 
--- what is found at the row that was read is found at the table's
-at-row : (sources : Sources) (s t : ℕ) {row there : ℕ} {answer : Bool} → row ≡ there
-    → clashOf (getD (sources .assigned) s 0) (getD (sources .assigned) t 0) row (originAt sources t) ≡ answer
-    → clashOf (getD (sources .assigned) s 0) (getD (sources .assigned) t 0) there (originAt sources t) ≡ answer
-at-row sources s t is found =
-    ap (λ (row : ℕ). clashOf (getD (sources .assigned) s 0) (getD (sources .assigned) t 0) row (originAt sources t)) (sym is) ∙ found
+-- what is found at the rows that were read is found at the table's
+at-row : (one other origin : ℕ) {row there : ℕ} {answer : Bool} → row ≡ there → clashOf one other row origin ≡ answer → clashOf one other there origin ≡ answer
+at-row one other origin is found = ap (λ (row : ℕ). clashOf one other row origin) (sym is) ∙ found
 
-like : (sources : Sources) (s t : ℕ) (known : Bool) {row others at-s at-t : ℕ} → row ≡ at-s → others ≡ at-t
-    → alikeOf known (getD (sources .assigned) s 0) (getD (sources .assigned) t 0) row others ≡ alikeOf known (getD (sources .assigned) s 0) (getD (sources .assigned) t 0) at-s at-t
-like sources s t known row-is others-is = ap₂ (alikeOf known (getD (sources .assigned) s 0) (getD (sources .assigned) t 0)) row-is others-is
+like : (known : Bool) (one other : ℕ) {row others at-s at-t : ℕ} → row ≡ at-s → others ≡ at-t → alikeOf known one other row others ≡ alikeOf known one other at-s at-t
+like known one other row-is others-is = ap₂ (alikeOf known one other) row-is others-is
+
+-- while source s is tried, for all index values by which the sources are linked
+pub record Trying (origins values assigned : List ℕ) (count : ℕ) (rows : List ℕ) (clear : List Bool) (s t : ℕ) : Type 0 where
+  pub same : t < count → getD values t 0 ≡ getD values s 0
+  pub free : Free (sourcesBy origins values assigned count) rows s t
+  pub marked : Marked (sourcesBy origins values assigned count) rows s clear
 
 abbrev Inv-loop : tie.InvT-loop
-Inv-loop rows next sources found₀ clear₀ count s row value t₀ found clear t =
+Inv-loop origins assigned count rows next found₀ clear₀ s row value t₀ found clear t =
     (found ≡ Found.Nothing)
     × (s < t)
-    × (t ≤ sources .count)
-    × (t < sources .count → valueAt sources t ≡ valueAt sources s)
-    × Free sources rows s t
-    × Marked sources rows s clear
+    × (t ≤ count)
+    × ((values : List ℕ) → Linked (sourcesBy origins values assigned count) next → Trying origins values assigned count rows clear s t)
 
 abbrev μ-loop : tie.MeasureT-loop
-μ-loop rows next sources found₀ clear₀ count s row value t₀ found clear t = sources .count - t
+μ-loop origins assigned count rows next found₀ clear₀ s row value t₀ found clear t = count - t
+
+-- what is left to search, and the marks of what is left
+pub record Searching (origins values assigned : List ℕ) (count : ℕ) (rows : List ℕ) (clear : List Bool) (s : ℕ) : Type 0 where
+  pub left : pairIn (sourcesBy origins values assigned count) rows ≡ restFrom (sourcesBy origins values assigned count) rows s
+  pub cleared : Cleared (sourcesBy origins values assigned count) rows s clear
 
 abbrev Inv-first : tie.InvT-first
-Inv-first rows next sources found₀ clear₀ count s₀ found clear s =
-    (found ≡ Found.Nothing) × (s ≤ sources .count) × (pairIn sources rows ≡ restFrom sources rows s) × Cleared sources rows s clear
+Inv-first origins assigned count rows next found₀ clear₀ s₀ found clear s =
+    (found ≡ Found.Nothing)
+    × (s ≤ count)
+    × ((values : List ℕ) → Linked (sourcesBy origins values assigned count) next → Searching origins values assigned count rows clear s)
 
 abbrev μ-first : tie.MeasureT-first
-μ-first rows next sources found₀ clear₀ count s₀ found clear s = sources .count - s
+μ-first origins assigned count rows next found₀ clear₀ s₀ found clear s = count - s
+
+-- the sources that are lent, with index values
+abbrev lent-to : tie.Start Inv-loop μ-loop Inv-first μ-first → List ℕ → Sources
+lent-to start values = sourcesBy (start .args .origins .now) values (start .args .assigned .now) (start .args .count)
 
 first-holds : tie.Need-first-holds Inv-loop μ-loop Inv-first μ-first
-first-holds c = (refl, omega arith, rest-all (c .args .t1) (c .args .rows .now), cleared-first (c .args .t1) (c .args .rows .now) 304 (c .pre .sources))
+first-holds c = (
+  refl,
+  omega arith,
+  λ values linked. record { left = rest-all (lent-to c values) (c .args .rows .now); cleared = cleared-first (lent-to c values) (c .args .rows .now) 304 (c .pre .sources) },
+)
 
 row-requires : tie.Need-row-requires Inv-loop μ-loop Inv-first μ-first
 row-requires c κs = omega (arith, c .before .before .pre .sources)
@@ -75,12 +90,19 @@ loop-holds c =
     let at = c .before .before .before .before .before in
     let start = at .before in
     let s = at .first .s in
-    let sources = start .args .t1 in
+    let inside : s < start .args .count = omega arith in
+    let next = getD (start .args .next .now) s 0 in
+    let known = getD (at .first .clear) s false in
     let rows = start .args .rows .now in
-    let inside : s < sources .count = omega arith in
-    let cleared = at .first .inv .3 in
-    let begun = begins sources rows s (getD (start .args .next .now) s 0) (getD (at .first .clear) s false) inside (cleared s (omega arith) inside) (start .pre .next s inside) (c .first-tried .result) (c .first-tried .ensures) in
-    (at .first .inv .0, begun .0, begun .1, begun .2, begun .3, marked-first sources rows s (at .first .clear) cleared)
+    let bounds = begins-at s next (start .args .count) known inside (start .pre .later s inside) (start .pre .within s inside) (c .first-tried .result) (c .first-tried .ensures) in (
+      at .first .inv .0,
+      bounds .0,
+      bounds .1,
+      (λ values linked.
+          let cleared = at .first .inv .2 values linked .cleared in
+          let begun = begins (lent-to start values) rows s next known (cleared s (omega arith) inside) (linked s inside) _ (c .first-tried .ensures) in
+          record { same = begun .0; free = begun .1; marked = marked-first (lent-to start values) rows s (at .first .clear) cleared }),
+    )
 
 mul-clashes : tie.Need-mul-clashes Inv-loop μ-loop Inv-first μ-first
 mul-clashes c = omega arith
@@ -125,14 +147,13 @@ cast-t : tie.Need-cast-t Inv-loop μ-loop Inv-first μ-first
 cast-t c =
     let at = c .before .before .before .before .before .before .before .before .before in
     let start = at .before .before .before .before .before .before .before in
-    omega (arith, start .pre .sources, start .pre .next (at .loop .t) (omega arith) .within)
+    omega (arith, start .pre .sources, start .pre .within (at .loop .t) (omega arith))
 
 loop-less : tie.Need-loop-less Inv-loop μ-loop Inv-first μ-first
 loop-less c =
     let at = c .before .before .before .before .before .before .before .before .before in
     let start = at .before .before .before .before .before .before .before in
-    let link = start .pre .next (at .loop .t) (omega arith) in
-    omega (arith, link .later, link .within)
+    omega (arith, start .pre .later (at .loop .t) (omega arith), start .pre .within (at .loop .t) (omega arith))
 
 loop-again : tie.Need-loop-again Inv-loop μ-loop Inv-first μ-first
 loop-again c =
@@ -140,22 +161,27 @@ loop-again c =
     let start = at .before .before .before .before .before .before .before in
     let s = at .before .before .before .before .before .before .first .s in
     let t = at .loop .t in
-    let sources = start .args .t1 in
     let rows = start .args .rows .now in
     let clear = at .loop .clear in
-    let inside : t < sources .count = omega arith in
-    let link = start .pre .next t inside in
-    let same = at .loop .inv .3 inside in
+    let inside : t < start .args .count = omega arith in
+    let one = getD (start .args .assigned .now) s 0 in
+    let other = getD (start .args .assigned .now) t 0 in
     let row-is = at .before .before .before .before .row .ensures in
-    let clash = clash-at sources rows s t same (at-row sources s t row-is (sym (c .before .before .before .before .before .clashes .ensures) ∙ c .before .before .before .before .if1 .left)) in
-    let put = c .before .alike .ensures ∙ like sources s t (getD clear t false) row-is (c .before .before .row2 .ensures) in
-    let next = getD (start .args .next .now) t 0 in (
+    let clash = at-row one other (getD (start .args .origins .now) t 0) row-is (sym (c .before .before .before .before .before .clashes .ensures) ∙ c .before .before .before .before .if1 .left) in
+    let put = c .before .alike .ensures ∙ like (getD clear t false) one other row-is (c .before .before .row2 .ensures) in (
       at .loop .inv .0,
-      omega (arith, link .later),
-      link .within,
-      (λ further. link .same further ∙ same),
-      free-over sources rows s t next (at .loop .inv .4) same clash link,
-      subst (λ (new : Bool). Marked sources rows s (set clear t new)) (sym put) (marked-put sources rows s t clear (at .loop .inv .1) inside same (at .loop .inv .5)),
+      omega (arith, start .pre .later t inside),
+      start .pre .within t inside,
+      (λ values linked.
+          let sources = lent-to start values in
+          let trying = at .loop .inv .3 values linked in
+          let same = trying .same inside in
+          let link = linked t inside in
+          record {
+            same = λ further. link .same further ∙ same;
+            free = free-over sources rows s t _ (trying .free) same (clash-at sources rows s t same clash) link;
+            marked = subst (λ (new : Bool). Marked sources rows s (set clear t new)) (sym put) (marked-put sources rows s t clear (at .loop .inv .1) inside same (trying .marked));
+          }),
     )
 
 add-s : tie.Need-add-s Inv-loop μ-loop Inv-first μ-first
@@ -169,19 +195,24 @@ first-again c =
     let at = c .before in
     let start = at .before .before .before .before .before .before .before in
     let s = at .before .before .before .before .before .before .first .s in
-    let sources = start .args .t1 in
-    let rows = start .args .rows .now in
-    let free : Free sources rows s (sources .count) = λ j above below. at .loop .inv .4 j above (omega arith) in (
+    let rows = start .args .rows .now in (
       at .loop .inv .0,
       omega arith,
-      at .before .before .before .before .before .before .first .inv .2 ∙ rest-free sources rows s (omega arith) free,
-      cleared-next sources rows s (at .loop .clear) free (at .loop .inv .5),
+      (λ values linked.
+          let sources = lent-to start values in
+          let trying = at .loop .inv .3 values linked in
+          let free : Free sources rows s (start .args .count) = λ j above below. trying .free j above (omega arith) in
+          record {
+            left = at .before .before .before .before .before .before .first .inv .2 values linked .left ∙ rest-free sources rows s (omega arith) free;
+            cleared = cleared-next sources rows s (at .loop .clear) free (trying .marked);
+          }),
     )
 
 returns : tie.Need-returns Inv-loop μ-loop Inv-first μ-first
 returns c =
     let at = c .before in
-    ap foundOf (at .first .inv .0) ∙ sym (at .first .inv .2 ∙ rest-end (at .before .args .t1) (at .before .args .rows .now) (at .first .s) (omega arith))
+    λ values linked.
+    ap foundOf (at .first .inv .0) ∙ sym (at .first .inv .2 values linked .left ∙ rest-end (lent-to (at .before) values) (at .before .args .rows .now) (at .first .s) (omega arith))
 
 returns-2 : tie.Need-returns-2 Inv-loop μ-loop Inv-first μ-first
 returns-2 c =
@@ -189,11 +220,15 @@ returns-2 c =
     let start = at .before .before .before .before .before .before .before in
     let s = at .before .before .before .before .before .before .first .s in
     let t = at .loop .t in
-    let sources = start .args .t1 in
     let rows = start .args .rows .now in
-    let inside : t < sources .count = omega arith in
-    let clash = clash-at sources rows s t (at .loop .inv .3 inside) (at-row sources s t (at .before .before .before .before .row .ensures) (sym (c .before .clashes .ensures) ∙ c .if1 .taken)) in
-    sym (at .before .before .before .before .before .before .first .inv .2 ∙ rest-hit sources rows s t (at .loop .inv .1) inside (at .loop .inv .4) clash)
+    let inside : t < start .args .count = omega arith in
+    let one = getD (start .args .assigned .now) s 0 in
+    let other = getD (start .args .assigned .now) t 0 in
+    let clash = at-row one other (getD (start .args .origins .now) t 0) (at .before .before .before .before .row .ensures) (sym (c .before .clashes .ensures) ∙ c .if1 .taken) in
+    λ values linked.
+    let sources = lent-to start values in
+    let trying = at .loop .inv .3 values linked in
+    sym (at .before .before .before .before .before .before .first .inv .2 values linked .left ∙ rest-hit sources rows s t (at .loop .inv .1) inside (trying .free) (clash-at sources rows s t (trying .same inside) clash))
 
 pub first-pair-spec : {M : Type 1} → statement M
 first-pair-spec =
