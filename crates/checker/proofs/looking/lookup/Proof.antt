@@ -3,8 +3,8 @@
 use borrow.Author.Needs.{needs}
 use Rattle.checker.proofs.Answers.{loaded-refused, loaded-accepted, loaded-fit, tables-judged, look-refused}
 use Rattle.checker.proofs.Cells.{look-concluded}
-use Rattle.checker.proofs.lookup.Statement.{statement}
-use Rattle.checker.proofs.lookup.Tie as tie
+use Rattle.checker.proofs.looking.lookup.Statement.{statement}
+use Rattle.checker.proofs.looking.lookup.Tie as tie
 
 load-requires : tie.Need-load-requires
 load-requires c κs = search needs

@@ -5,8 +5,8 @@ use mathlib.Core.Path.{_≡_, refl, sym, _∙_}
 use Prim.Native.Nat.{_-_, _≤_}
 use native.Mathlib.Omega.{arith}
 use borrow.Author.Needs.{needs}
-use Rattle.checker.proofs.value_at.Statement.{statement}
-use Rattle.checker.proofs.value_at.Tie as tie
+use Rattle.checker.proofs.looking.value_at.Statement.{statement}
+use Rattle.checker.proofs.looking.value_at.Tie as tie
 
 abbrev Inv-loop : tie.InvT-loop
 Inv-loop rows array index sources count k₀ k = (k ≤ count) × (count ≡ sources .count) × (count ≤ 304) × LeftFrom sources rows array index k

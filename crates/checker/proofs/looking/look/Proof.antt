@@ -4,8 +4,8 @@ use Rattle.lemma.specs.Pairs.{foundOf}
 use Rattle.checker.proofs.Concluding.{looks-nowhere, looks-past, looks-clash, looks-up}
 use mathlib.Core.Path.{ap}
 use borrow.Author.Needs.{needs}
-use Rattle.checker.proofs.look.Statement.{statement}
-use Rattle.checker.proofs.look.Tie as tie
+use Rattle.checker.proofs.looking.look.Statement.{statement}
+use Rattle.checker.proofs.looking.look.Tie as tie
 
 enum-told : tie.Need-enum-told
 enum-told c = search needs

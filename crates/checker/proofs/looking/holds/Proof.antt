@@ -2,8 +2,8 @@
 -- Assumes nothing.
 use borrow.Author.Tests.{eq-eqb, ne-eqb}
 use borrow.Author.Needs.{needs}
-use Rattle.checker.proofs.holds.Statement.{statement}
-use Rattle.checker.proofs.holds.Tie as tie
+use Rattle.checker.proofs.looking.holds.Statement.{statement}
+use Rattle.checker.proofs.looking.holds.Tie as tie
 
 returns : tie.Need-returns
 returns c = rw (ne-eqb _ _ (c .if1 .taken))

@@ -3,8 +3,8 @@
 use borrow.Author.Needs.{needs}
 use Rattle.checker.proofs.Answers.{loaded-refused, loaded-accepted, loaded-fit, tables-judgeable, tables-judged, write-refused}
 use Rattle.checker.proofs.Runs.{write-concluded}
-use Rattle.checker.proofs.clauses.Statement.{statement}
-use Rattle.checker.proofs.clauses.Tie as tie
+use Rattle.checker.proofs.writing.clauses.Statement.{statement}
+use Rattle.checker.proofs.writing.clauses.Tie as tie
 
 load-requires : tie.Need-load-requires
 load-requires c κs = search needs

@@ -3,8 +3,8 @@
 use mathlib.Core.Path.{refl}
 use borrow.Author.Needs.{needs}
 use Rattle.checker.proofs.Answers.{loaded-refused, loaded-accepted, loaded-fit, tables-judged}
-use Rattle.checker.proofs.examine.Statement.{statement}
-use Rattle.checker.proofs.examine.Tie as tie
+use Rattle.checker.proofs.examining.examine.Statement.{statement}
+use Rattle.checker.proofs.examining.examine.Tie as tie
 
 load-requires : tie.Need-load-requires
 load-requires c κs = search needs

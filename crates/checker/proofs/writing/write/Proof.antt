@@ -10,8 +10,8 @@ use Prim.Native.Nat.{ℕ, _+_, _*_, _<_, _≤_}
 use native.Mathlib.Omega.{arith}
 use borrow.Author.Needs.{needs}
 use lib.ListN.{length}
-use Rattle.checker.proofs.write.Statement.{statement}
-use Rattle.checker.proofs.write.Tie as tie
+use Rattle.checker.proofs.writing.write.Statement.{statement}
+use Rattle.checker.proofs.writing.write.Tie as tie
 
 enum-told : tie.Need-enum-told
 enum-told c = search needs
