@@ -6,7 +6,7 @@ use Rattle.checker.proofs.looking.holds.Statement.{statement}
 use Rattle.checker.proofs.looking.holds.Tie as tie
 
 returns : tie.Need-returns
-returns c = rw (ne-eqb _ _ (c .if1 .taken))
+returns c = rw (ne-eqb (c .before .args .value) (c .before .args .index) (c .if1 .taken))
 
 shr-result : tie.Need-shr-result
 shr-result c = search needs
