@@ -1,6 +1,7 @@
 /* The exported functions on the stored queries, from C: tests/face.c FOLDER NAME.. reads FOLDER/NAME.hex and what the programs print for it
  * (NAME.verdict, NAME.clauses, NAME.lookup-ARRAY-INDEX), makes of it what each function is to return, report and write, and compares,
- * for buffers that hold the answer and for every shorter one. The last line is 'N passed, M failed'.
+ * for buffers that hold the answer, for every shorter answer buffer, and for four shorter runs of numbers: none, one, half, one too few.
+ * The last line is 'N passed, M failed'.
  */
 #include <dirent.h>
 #include <inttypes.h>
