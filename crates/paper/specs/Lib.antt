@@ -10,4 +10,5 @@ pub mod Conflict
 pub mod Lemma
 pub mod Model
 pub mod Clauses
+pub mod Reading
 pub mod Answers
