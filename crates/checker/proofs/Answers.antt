@@ -47,7 +47,7 @@ use Rattle.checker.proofs.Joined.{pairs-same, conflict-same, lemma-same
 use Rattle.checker.proofs.Facts.{pair-facts}
 
 -- a slice of bytes holds bytes
-are-bytes : (xs : List ℕ) → ((i : ℕ) → getD xs i 0 < 256) → AreBytes xs
+pub are-bytes : (xs : List ℕ) → ((i : ℕ) → getD xs i 0 < 256) → AreBytes xs
 are-bytes [] small x here = absurd (List·Memᴰ·not-nil here)
 are-bytes (y ∷ xs) small x here = go (List·Memᴰ·cases-cons here) (are-bytes xs (λ i. small (suc i)) x)
   where

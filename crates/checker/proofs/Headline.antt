@@ -1,33 +1,28 @@
 -- The headline theorems, of the functions' own answers: what a result and its buffer promise wherever the contract allows them, and that it
--- allows only one. `CheckAllows`, `LookAllows` and `WriteAllows` are the contracts of `check`, `lookup` and `clauses`.
+-- allows only one. `CheckAllows`, `LookAllows` and `WriteAllows` (specs/Reports.antt) are the contracts of `check`, `lookup` and `clauses`;
+-- `before` and `after` are the buffer as it was lent and as it is handed back. The crate `tie` holds the functions to them by machine.
 -- Assumes nothing.
-use Prim.Native.Nat.{ℕ, zero, suc, _<_, _≤_, _^_}
+use Prim.Native.Nat.{ℕ, _<_, _≤_, _^_}
 use native.Mathlib.Omega.{arith}
-use mathlib.Core.Path.{_≡_, refl, sym, ap, _∙_}
-use mathlib.Core.Logic.{_↔_}
-use mathlib.Core.Bool.{Bool, true, false}
-use mathlib.Core.List.{List, [], _∷_}
-use mathlib.Core.Option.{Option, none, some}
+use mathlib.Core.Path.{_≡_, sym, ap, _∙_, subst}
+use mathlib.Core.Logic.{_⊎_, ⊎-map, _↔_}
+use mathlib.Core.Bool.{false, not}
+use mathlib.Core.List.{List}
+use lib.Dec.{eqb}
 use lib.IntN.{ℤ}
-use lib.ListN.{length}
-use Rattle.paper.specs.Fields.{base, boolean, array}
+use lib.ListN.{length, take, drop}
+use Rattle.paper.specs.Fields.{array}
 use Rattle.paper.specs.Terms.{given, Query}
 use Rattle.paper.specs.Interpretations.{Interpretation}
 use Rattle.paper.specs.Interpretations as Paper
 use Rattle.paper.specs.Load.{Loaded, load}
-use Rattle.paper.specs.Conflict.{Pair}
-use Rattle.paper.specs.Lemma.{Literal, lemmaBytes}
-use Rattle.paper.specs.Clauses.{run}
-use Rattle.paper.specs.Answers.{Verdict, check, look, writeClauses, writtenOver}
+use Rattle.paper.specs.Answers.{check, look, writeClauses}
 use Rattle.meaning.proofs.Built.{AreBytes}
-use Rattle.meaning.proofs.Accepted.{Accepted, accepted}
-use Rattle.meaning.proofs.Whole.{guessOf, pairOf}
-use Rattle.meaning.proofs.Sources.{arrays-bound}
-use Rattle.meaning.proofs.Memories.{interprets-same}
+use Rattle.meaning.proofs.Whole.{guessOf, pairsOf}
 use Rattle.meaning.proofs.Called.{look-none}
-use Rattle.meaning.proofs.Verdict.{numbered, conflict-refutes}
 use Rattle.meaning.proofs.Demands as Demands
-use Rattle.meaning.proofs.Demands.{RulesOut, Say, Clausal}
+use Rattle.meaning.proofs.Demands.{Lemma, Clausal}
+use Rattle.meaning.proofs.Answered as Answered
 use Rattle.query.specs.declared.Refusal.{Refusal}
 use Rattle.checker.specs.declared.Totals.{Totals}
 use Rattle.checker.specs.declared.Checked.{Checked}
@@ -36,134 +31,143 @@ use Rattle.checker.specs.declared.Looked.{Looked}
 use Rattle.checker.specs.declared.Looked.the-variants.{Refused as NotLooked, Value}
 use Rattle.checker.specs.declared.Written.{Written}
 use Rattle.checker.specs.declared.Written.the-variants.{Refused as NotWritten, Clauses}
-use Rattle.checker.specs.Reports.{reportOf, CheckedAs, lookReportOf, lookReported, WrittenAs}
-use Rattle.checker.proofs.Told.{checkedBy, checked-told, lookedBy, looked-told, writtenBy, written-told, over-nothing}
-
-abbrev pub CheckAllows : (bytes before after : List ℕ) → Checked → Type 0
-CheckAllows bytes before after r = CheckedAs (check 32 bytes (length before)) before after r
-
-abbrev pub LookAllows : (bytes : List ℕ) (a x : ℕ) → Looked → Type 0
-LookAllows bytes a x r = lookReportOf r ≡ lookReported (look 32 bytes a x)
-
-abbrev pub WriteAllows : (bytes : List ℕ) (before after : List ℤ) → Written → Type 0
-WriteAllows bytes before after r = WrittenAs (writeClauses 32 bytes (length before)) before after r
+use Rattle.checker.specs.Reports.{reportOf, reported, lookReportOf, writeReportOf, writeReported, CheckAllows, LookAllows, WriteAllows}
+use Rattle.checker.proofs.Told.{checkedBy, checkTold, check-told, lookTold, look-told, writtenBy, writeTold, write-told, check-front, check-rest, write-front, write-rest}
 
 -- "two results allowed by it are equal", with their buffers
 pub check-settled : (bytes before after other-after : List ℕ) (r other : Checked) → CheckAllows bytes before after r → CheckAllows bytes before other-after other
     → (r ≡ other) × (after ≡ other-after)
-check-settled bytes before after other-after r other one two =
-    (checked-told r ∙ ap (λ report. checkedBy (report .verdict) report) (one .report ∙ sym (two .report)) ∙ sym (checked-told other), one .buffer ∙ sym (two .buffer))
+check-settled bytes before after other-after r other one two = (check-told one ∙ sym (check-told two), one .buffer ∙ sym (two .buffer))
 
 pub lookup-settled : (bytes : List ℕ) (a x : ℕ) (r other : Looked) → LookAllows bytes a x r → LookAllows bytes a x other → r ≡ other
-lookup-settled bytes a x r other one two =
-    looked-told r ∙ ap (λ report. lookedBy (report .refused) report) (one ∙ sym two) ∙ sym (looked-told other)
+lookup-settled bytes a x r other one two = look-told (look 32 bytes a x) one ∙ sym (look-told (look 32 bytes a x) two)
 
 pub clauses-settled : (bytes : List ℕ) (before after other-after : List ℤ) (r other : Written) → WriteAllows bytes before after r
     → WriteAllows bytes before other-after other → (r ≡ other) × (after ≡ other-after)
-clauses-settled bytes before after other-after r other one two =
-    (written-told r ∙ ap (λ report. writtenBy (report .refused) report) (one .report ∙ sym (two .report)) ∙ sym (written-told other), one .run ∙ sym (two .run))
+clauses-settled bytes before after other-after r other one two = (write-told one ∙ sym (write-told two), one .run ∙ sym (two .run))
 
--- Demand 1. A refused call changes no byte of the answer buffer, and no number of the run.
+-- Demand 1. Bytes that 01 refuses as a query are refused by each call, by the paper's number and offset.
+module _ (bytes : List ℕ) (refusal at : ℕ) (loaded : load 32 bytes ≡ Loaded.refused refusal at) where
+  pub check-refused : (before after : List ℕ) (r : Checked) → CheckAllows bytes before after r → r ≡ Refused (record { number = refusal; offset = at })
+  check-refused before after r allowed = check-told allowed ∙ ap checkTold (Demands.refused-alike 32 bytes refusal at loaded (length before) 0 0 .0)
+
+  pub lookup-refused : (a x : ℕ) (r : Looked) → LookAllows bytes a x r → r ≡ NotLooked (record { number = refusal; offset = at })
+  lookup-refused a x r allowed =
+      look-told (look 32 bytes a x) allowed ∙ ap lookTold (Demands.refused-alike 32 bytes refusal at loaded 0 a x .1) ∙ rw (Answered.refused-numbered 32 bytes refusal at loaded)
+
+  pub clauses-refused : (before after : List ℤ) (r : Written) → WriteAllows bytes before after r → r ≡ NotWritten (record { number = refusal; offset = at })
+  clauses-refused before after r allowed =
+      write-told allowed ∙ ap writeTold (Demands.refused-alike 32 bytes refusal at loaded (length before) 0 0 .2) ∙ rw (Answered.refused-numbered 32 bytes refusal at loaded)
+
+-- A call changes the first bytes of the buffer, or numbers of the run, as many as it reports: a refused call and a consistent check none.
+pub check-rest-stays : (bytes before after : List ℕ) (r : Checked) → CheckAllows bytes before after r
+    → drop (reportOf r .length) after ≡ drop (reportOf r .length) before
+check-rest-stays bytes before after r allowed = check-rest allowed
+
 pub check-refused-untouched : (bytes before after : List ℕ) (refusal : Refusal) → CheckAllows bytes before after (Refused refusal) → after ≡ before
-check-refused-untouched bytes before after refusal allowed =
-    allowed .buffer ∙ over-nothing before (check 32 bytes (length before) .written) (ap (λ report. report .length) (allowed .report))
+check-refused-untouched bytes before after refusal allowed = check-rest-stays bytes before after (Refused refusal) allowed
+
+pub consistent-untouched : (bytes before after : List ℕ) (pairs : ℕ) → CheckAllows bytes before after (Consistent pairs) → after ≡ before
+consistent-untouched bytes before after pairs allowed = check-rest-stays bytes before after (Consistent pairs) allowed
+
+pub clauses-rest-stay : (bytes : List ℕ) (before after : List ℤ) (r : Written) → WriteAllows bytes before after r
+    → drop (writeReportOf r .count) after ≡ drop (writeReportOf r .count) before
+clauses-rest-stay bytes before after r allowed = write-rest allowed
 
 pub clauses-refused-untouched : (bytes : List ℕ) (before after : List ℤ) (refusal : Refusal) → WriteAllows bytes before after (NotWritten refusal) → after ≡ before
-clauses-refused-untouched bytes before after refusal allowed =
-    allowed .run ∙ over-nothing before (writeClauses 32 bytes (length before) .written) (ap (λ report. report .count) (allowed .report))
-
--- Nor does a consistent check.
-pub consistent-untouched : (bytes before after : List ℕ) (pairs : ℕ) → CheckAllows bytes before after (Consistent pairs) → after ≡ before
-consistent-untouched bytes before after pairs allowed =
-    allowed .buffer ∙ over-nothing before (check 32 bytes (length before) .written) (ap (λ report. report .length) (allowed .report))
-
--- A lemma that `check` wrote, so many bytes long, and which rules the guess out
-pub record Lemma (query : Query) (before after : List ℕ) (long : ℕ) : Type 0 where
-  pub literals : List Literal
-  pub long-is : long ≡ length (lemmaBytes literals)
-  pub buffer-is : after ≡ writtenOver before (lemmaBytes literals)
-  pub rules-out : RulesOut 32 query literals
-
--- Clauses that `clauses` wrote, and which say the lemma that `check` gives
-pub record Said (bytes : List ℕ) (query : Query) (before after : List ℤ) (totals : Totals) : Type 0 where
-  pub literals : List Literal
-  pub clauses : List (List ℤ)
-  pub lemma-is : check 32 bytes 343 .written ≡ lemmaBytes literals
-  pub clauses-is : totals .clauses ≡ length clauses
-  pub count-is : totals .count ≡ length (run clauses)
-  pub run-is : after ≡ writtenOver before (run clauses)
-  pub say : Say 32 (given base (query .terms)) (given boolean (query .terms)) clauses literals
+clauses-refused-untouched bytes before after refusal allowed = clauses-rest-stay bytes before after (NotWritten refusal) allowed
 
 -- All that follows is of an accepted query.
 module _ (bytes : List ℕ) (query : Query) (are-bytes : AreBytes bytes) (loaded : load 32 bytes ≡ Loaded.accepted query) where
+  -- Answers come. With 343 bytes every accepted query is answered, consistent or in conflict, and the pairs reported are the paper's.
+  pub check-answered : (before after : List ℕ) (r : Checked) → CheckAllows bytes before after r → 343 ≤ length before
+      → (r ≡ Consistent (pairsOf query)) ⊎ ((long : ℕ) × (r ≡ Conflict (pairsOf query) long))
+  check-answered before after r allowed fits =
+      let answer = check 32 bytes (length before) in
+      let (verdict, pairs) = Answered.check-answered 32 bytes query are-bytes loaded (length before) fits in
+      ⊎-map
+      (λ quiet. check-told allowed ∙ ap (λ one. checkedBy one (reported answer)) quiet ∙ ap Consistent pairs)
+      (λ clash. (length (answer .written), check-told allowed ∙ ap (λ one. checkedBy one (reported answer)) clash ∙ ap (λ many. Conflict many (length (answer .written))) pairs))
+      verdict
+
+  -- In general: 10 exactly if the answer, as 343 bytes hold it, is longer than what was lent; else just that answer.
+  pub check-by-room : (before after : List ℕ) (r : Checked) → CheckAllows bytes before after r
+      → (large large-after : List ℕ) (full : Checked) → CheckAllows bytes large large-after full → 343 ≤ length large
+      → ((length before < reportOf full .length) × (r ≡ Refused (record { number = 10; offset = 0 }))) ⊎ ((reportOf full .length ≤ length before) × (r ≡ full))
+  check-by-room before after r allowed large large-after full held fits =
+      let long = ap (λ report. report .length) (held .report) in
+      ⊎-map (λ (longer, is). (rw long longer, check-told allowed ∙ ap checkTold is))
+      (λ (short, is). (rw long short, check-told allowed ∙ ap checkTold is ∙ sym (check-told held)))
+      (Answered.check-by-room 32 bytes query are-bytes loaded (length before) (length large) fits)
+
+  -- With 12,625 numbers the clauses of every query in conflict are written; of a consistent one they are refused by 12.
+  pub clauses-answered : (Paper.Consistent 32 query → ⊥) → (before after : List ℤ) (r : Written) → WriteAllows bytes before after r → 12625 ≤ length before
+      → (totals : Totals) × (r ≡ Clauses totals)
+  clauses-answered unfit before after r allowed fits =
+      (_, write-told allowed ∙ ap (λ (n : ℕ). writtenBy (not (eqb n 0)) (writeReported (writeClauses 32 bytes (length before)))) (Answered.clauses-answered bytes query are-bytes loaded unfit (length before) fits))
+
+  pub clauses-consistent : Paper.Consistent 32 query → (before after : List ℤ) (r : Written) → WriteAllows bytes before after r
+      → r ≡ NotWritten (record { number = 12; offset = 0 })
+  clauses-consistent consistent before after r allowed =
+      write-told allowed ∙ ap writeTold (Answered.clauses-fit 32 bytes query are-bytes loaded consistent (length before))
+
+  -- In general: 10 exactly if the clauses, as 12,625 numbers hold them, are longer than what was lent; else just those.
+  pub clauses-by-room : (before after : List ℤ) (r : Written) → WriteAllows bytes before after r
+      → (large large-after : List ℤ) (full : Written) → WriteAllows bytes large large-after full → 12625 ≤ length large
+      → ((length before < writeReportOf full .count) × (r ≡ NotWritten (record { number = 10; offset = 0 })))
+      ⊎ ((writeReportOf full .count ≤ length before) × (r ≡ full))
+  clauses-by-room before after r allowed large large-after full held fits =
+      let long = ap (λ report. report .count) (held .report) in
+      ⊎-map (λ (longer, is). (rw long longer, write-told allowed ∙ ap writeTold is))
+      (λ (short, is). (rw long short, write-told allowed ∙ ap writeTold is ∙ sym (write-told held)))
+      (Answered.clauses-by-room bytes query are-bytes loaded (length before) (length large) fits)
+
   -- Demand 2. `check` answers "consistent" exactly if an interpretation exists with all the assigned values and truths.
   pub check-consistent-exactly : (before after : List ℕ) (r : Checked) → CheckAllows bytes before after r
       → ((pairs : ℕ) × (r ≡ Consistent pairs)) ↔ Paper.Consistent 32 query
-  check-consistent-exactly before after r allowed = (
-    (λ answered. exactly .0 (sym verdict ∙ ap (λ one. reportOf one .verdict) (answered .1))),
-    (λ consistent. (reportOf r .pairs, checked-told r ∙ ap (λ one. checkedBy one (reportOf r)) (verdict ∙ exactly .1 consistent))),
-  )
-    where
-      verdict : reportOf r .verdict ≡ check 32 bytes (length before) .verdict
-      verdict = ap (λ report. report .verdict) (allowed .report)
+  check-consistent-exactly before after r allowed =
+      let (exists, consistent) = Demands.consistent-exactly 32 bytes query are-bytes loaded (length before) in
+      let verdict = ap (λ report. report .verdict) (allowed .report) in (
+        (λ (pairs, is). exists (sym verdict ∙ ap (λ one. reportOf one .verdict) is)),
+        (λ fits. (_, check-told allowed ∙ ap (λ one. checkedBy one (reported (check 32 bytes (length before)))) (consistent fits))),
+      )
 
-      exactly : (check 32 bytes (length before) .verdict ≡ Verdict.consistent) ↔ Paper.Consistent 32 query
-      exactly = Demands.consistent-exactly 32 bytes query are-bytes loaded (length before)
-
-  -- In a conflict the bytes written are a lemma that holds in every interpretation of the terms and is false under the guess.
+  -- In a conflict, what is read off the bytes that `check` wrote is a lemma that holds in every interpretation of the terms and is false under
+  -- the guess.
   pub check-conflict-rules-out : (before after : List ℕ) (pairs long : ℕ) → CheckAllows bytes before after (Conflict pairs long)
-      → Lemma query before after long
+      → Lemma 32 query (take long after)
   check-conflict-rules-out before after pairs long allowed =
-      record {
-        literals = ruled .0;
-        long-is = ap (λ report. report .length) (allowed .report) ∙ ap length (ruled .1);
-        buffer-is = allowed .buffer ∙ ap (writtenOver before) (ruled .1);
-        rules-out = ruled .2;
-      }
-    where
-      ruled : (literals : List Literal) × (check 32 bytes (length before) .written ≡ lemmaBytes literals) × RulesOut 32 query literals
-      ruled =
-          Demands.conflict-rules-out 32 bytes query are-bytes loaded (length before)
-          (sym (ap (λ report. report .verdict) (allowed .report)))
+      subst (Lemma 32 query) (sym (check-front allowed))
+      (Demands.conflict-rules-out 32 bytes query are-bytes loaded (length before) (sym (ap (λ report. report .verdict) (allowed .report))))
 
   -- On a consistent query, what `lookup` answers over all arrays and indices is the memories of an interpretation.
   pub lookup-interprets : Paper.Consistent 32 query → (answers : (a x : ℕ) → Looked)
       → ((a x : ℕ) → a < 2 ^ 64 → x < 2 ^ 64 → LookAllows bytes a x (answers a x))
       → Interpretation 32 (query .terms) (guessOf query) (λ a x. lookReportOf (answers a x) .value)
   lookup-interprets consistent answers allowed =
-      interprets-same 32 (query .terms) (numbered ok) (guessOf query) (λ a x. look 32 bytes a x .value) (λ a x. lookReportOf (answers a x) .value)
-      (λ a x a-in x-in. sym (ap (λ report. report .value) (allowed a x (omega (arith, arrays-bound ok, a-in)) (omega (arith, x-in)))))
-      (ok .small)
-      (Demands.lookup-interprets 32 bytes query are-bytes loaded 0 (Demands.consistent-exactly 32 bytes query are-bytes loaded 0 .1 consistent))
-    where
-      ok : Accepted 32 query
-      ok = accepted 32 bytes query are-bytes loaded
+      Answered.lookups-interpret 32 bytes query are-bytes loaded consistent (omega arith) (λ a x. lookReportOf (answers a x) .value)
+      (λ a x a-fits x-fits. ap (λ report. report .value) (allowed a x a-fits x-fits))
 
-  -- Each of them is a value: within the arrays and the indices nothing is refused.
+  -- Each of them is a value: within the arrays and the indices nothing is refused. Outside it is 11, and on a query in conflict 12.
   pub lookup-answers : Paper.Consistent 32 query → (a x : ℕ) → a < given array (query .terms) → x < 2 ^ 32 → (r : Looked) → LookAllows bytes a x r
-      → r ≡ Value (lookReportOf r .value)
+      → (value : ℕ) × (r ≡ Value value)
   lookup-answers consistent a x a-in x-in r allowed =
-      looked-told r
-      ∙ ap (λ refused. lookedBy refused (lookReportOf r))
-      (ap (λ report. report .refused) allowed ∙ ap (λ answer. lookReported answer .refused) (look-none 32 bytes query loaded a x (quiet (pairOf query) refl) a-in x-in))
-    where
-      quiet : (found : Option Pair) → pairOf query ≡ found → found ≡ none
-      quiet none is = refl
-      quiet (some pair) is = absurd (conflict-refutes (accepted 32 bytes query are-bytes loaded) pair is consistent)
+      (_, look-told (look 32 bytes a x) allowed ∙ ap lookTold (look-none 32 bytes query loaded a x (Answered.fits-none 32 bytes query are-bytes loaded consistent) a-in x-in))
 
-  -- Demand 3. The numbers that `clauses` wrote are clauses that say exactly the lemma.
-  pub clauses-say : (before after : List ℤ) (totals : Totals) → WriteAllows bytes before after (Clauses totals) → Said bytes query before after totals
-  clauses-say before after totals allowed =
-      record {
-        literals = said .literals;
-        clauses = said .clauses;
-        lemma-is = said .lemma-is;
-        clauses-is = ap (λ report. report .clauses) (allowed .report) ∙ said .count-is;
-        count-is = ap (λ report. report .count) (allowed .report) ∙ ap length (said .written-is);
-        run-is = allowed .run ∙ ap (writtenOver before) (said .written-is);
-        say = said .say;
-      }
-    where
-      said : Clausal 32 bytes query (length before)
-      said =
-          Demands.clauses-exactly 32 bytes query are-bytes loaded (length before) (sym (ap (λ report. report .refusal) (allowed .report)))
+  pub lookup-nowhere : Paper.Consistent 32 query → (a x : ℕ) → (given array (query .terms) ≤ a) ⊎ (2 ^ 32 ≤ x) → (r : Looked) → LookAllows bytes a x r
+      → r ≡ NotLooked (record { number = 11; offset = 0 })
+  lookup-nowhere consistent a x outside r allowed =
+      look-told (look 32 bytes a x) allowed ∙ ap lookTold (Answered.look-nowhere 32 bytes query are-bytes loaded consistent a x outside)
+
+  pub lookup-in-conflict : (Paper.Consistent 32 query → ⊥) → (a x : ℕ) (r : Looked) → LookAllows bytes a x r
+      → r ≡ NotLooked (record { number = 12; offset = 0 })
+  lookup-in-conflict unfit a x r allowed = look-told (look 32 bytes a x) allowed ∙ ap lookTold (Answered.look-unfit 32 bytes query are-bytes loaded unfit a x)
+
+  -- Demand 3. What is read off the numbers that `clauses` wrote says exactly what is read off the bytes that `check` wrote.
+  pub clauses-say : (before after : List ℕ) (pairs long : ℕ) → CheckAllows bytes before after (Conflict pairs long)
+      → (run-before run-after : List ℤ) (totals : Totals) → WriteAllows bytes run-before run-after (Clauses totals)
+      → Clausal 32 query (take long after) (take (totals .count) run-after) (totals .variables) (totals .clauses)
+  clauses-say before after pairs long checked run-before run-after totals allowed =
+      rw (check-front checked, write-front allowed, ap (λ report. report .variables) (allowed .report), ap (λ report. report .clauses) (allowed .report))
+      (Demands.clauses-exactly 32 bytes query are-bytes loaded (length before) (sym (ap (λ report. report .verdict) (checked .report))) (length run-before)
+      (sym (ap (λ report. report .refusal) (allowed .report))))

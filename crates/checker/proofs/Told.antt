@@ -1,19 +1,23 @@
--- Each answer is told by its report.
+-- Each answer is told by its report, and so by the paper's answer; and what stands in a buffer that was written over.
 -- Assumes nothing.
 use Prim.Native.Nat.{ℕ}
-use native.Mathlib.Omega.{arith}
-use mathlib.Core.Path.{_≡_, refl}
-use mathlib.Core.Bool.{Bool, true, false}
-use mathlib.Core.List.{List, [], _∷_}
-use lib.ListN.{length}
+use mathlib.Core.Path.{_≡_, refl, sym, ap, _∙_}
+use mathlib.Core.Bool.{Bool, true, false, not}
+use mathlib.Core.List.{List}
+use lib.Dec.{eqb}
+use lib.IntN.{ℤ}
+use lib.ListN.{length, take, drop}
+use lib.Seq.{take-at, drop-at}
 use Rattle.paper.specs.Answers.{Verdict, writtenOver}
+use Rattle.paper.specs.Answers as Paper
 use Rattle.checker.specs.declared.Checked.{Checked}
 use Rattle.checker.specs.declared.Checked.the-variants.{Refused, Consistent, Conflict}
 use Rattle.checker.specs.declared.Looked.{Looked}
 use Rattle.checker.specs.declared.Looked.the-variants.{Refused as NotLooked, Value}
 use Rattle.checker.specs.declared.Written.{Written}
 use Rattle.checker.specs.declared.Written.the-variants.{Refused as NotWritten, Clauses}
-use Rattle.checker.specs.Reports.{Report, reportOf, LookReport, lookReportOf, WriteReport, writeReportOf}
+use Rattle.checker.specs.Reports.{Report, reportOf, reported, LookReport, lookReportOf, lookReported, WriteReport, writeReportOf, writeReported}
+use Rattle.checker.specs.Reports.{CheckedAs, WrittenAs}
 
 abbrev pub checkedBy : Verdict → Report → Checked
 checkedBy Verdict.refused report = Refused (record { number = report .refusal; offset = report .offset })
@@ -41,7 +45,44 @@ pub written-told : (r : Written) → r ≡ writtenBy (writeReportOf r .refused) 
 written-told (NotWritten refusal) = refl
 written-told (Clauses totals) = refl
 
--- what writes nothing leaves the buffer as it was
-pub over-nothing : {A : Type 0} (buffer written : List A) → 0 ≡ length written → writtenOver buffer written ≡ buffer
-over-nothing buffer [] none = refl
-over-nothing buffer (x ∷ written) none = absurd (omega (arith, none))
+-- What was written over a buffer stands first in it, and the rest stays
+pub front : {A : Type 0} (before after written : List A) (long : ℕ) → long ≡ length written → after ≡ writtenOver before written → take long after ≡ written
+front before after written long is over = ap (take long) over ∙ take-at written (drop (length written) before) long (sym is)
+
+pub rest : {A : Type 0} (before after written : List A) (long : ℕ) → long ≡ length written → after ≡ writtenOver before written
+    → drop long after ≡ drop long before
+rest before after written long is over =
+    ap (drop long) over ∙ drop-at written (drop (length written) before) long (sym is) ∙ ap (λ (n : ℕ). drop n before) (sym is)
+
+-- A contract allows the answer that the paper's answer tells, and no other; and what the paper's answer writes stands first in the buffer
+abbrev pub checkTold : Paper.Checked → Checked
+checkTold answer = checkedBy (answer .verdict) (reported answer)
+
+module _ {answer : Paper.Checked} {before after : List ℕ} {r : Checked} (allowed : CheckedAs answer before after r) where
+  pub check-told : r ≡ checkTold answer
+  check-told = checked-told r ∙ ap (λ report. checkedBy (report .verdict) report) (allowed .report)
+
+  pub check-front : take (reportOf r .length) after ≡ answer .written
+  check-front = front before after (answer .written) (reportOf r .length) (ap (λ report. report .length) (allowed .report)) (allowed .buffer)
+
+  pub check-rest : drop (reportOf r .length) after ≡ drop (reportOf r .length) before
+  check-rest = rest before after (answer .written) (reportOf r .length) (ap (λ report. report .length) (allowed .report)) (allowed .buffer)
+
+abbrev pub lookTold : Paper.Looked → Looked
+lookTold answer = lookedBy (not (eqb (answer .refusal) 0)) (lookReported answer)
+
+pub look-told : (answer : Paper.Looked) {r : Looked} → lookReportOf r ≡ lookReported answer → r ≡ lookTold answer
+look-told answer {r} allowed = looked-told r ∙ ap (λ report. lookedBy (report .refused) report) allowed
+
+abbrev pub writeTold : Paper.Written → Written
+writeTold answer = writtenBy (not (eqb (answer .refusal) 0)) (writeReported answer)
+
+module _ {answer : Paper.Written} {before after : List ℤ} {r : Written} (allowed : WrittenAs answer before after r) where
+  pub write-told : r ≡ writeTold answer
+  write-told = written-told r ∙ ap (λ report. writtenBy (report .refused) report) (allowed .report)
+
+  pub write-front : take (writeReportOf r .count) after ≡ answer .written
+  write-front = front before after (answer .written) (writeReportOf r .count) (ap (λ report. report .count) (allowed .report)) (allowed .run)
+
+  pub write-rest : drop (writeReportOf r .count) after ≡ drop (writeReportOf r .count) before
+  write-rest = rest before after (answer .written) (writeReportOf r .count) (ap (λ report. report .count) (allowed .report)) (allowed .run)

@@ -84,3 +84,13 @@ writeReported answer =
 pub record WrittenAs (answer : Paper.Written) (before after : List ℤ) (r : Written) : Type 0 where
   pub report : writeReportOf r ≡ writeReported answer
   pub run : after ≡ writtenOver before (answer .written)
+
+-- The contracts of `check`, `lookup` and `clauses`: what they may answer of these bytes, and leave in a buffer that held `before`
+abbrev pub CheckAllows : (bytes before after : List ℕ) → Checked → Type 0
+CheckAllows bytes before after r = CheckedAs (Paper.check 32 bytes (length before)) before after r
+
+abbrev pub LookAllows : (bytes : List ℕ) (a x : ℕ) → Looked → Type 0
+LookAllows bytes a x r = lookReportOf r ≡ lookReported (Paper.look 32 bytes a x)
+
+abbrev pub WriteAllows : (bytes : List ℕ) (before after : List ℤ) → Written → Type 0
+WriteAllows bytes before after r = WrittenAs (Paper.writeClauses 32 bytes (length before)) before after r

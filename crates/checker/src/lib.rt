@@ -2,9 +2,7 @@
 ghost use Rattle.reach.specs.Reached.{Fit};
 ghost use Rattle.lemma.specs.Pairs.{sourcesBy};
 ghost use Rattle.checker.specs.Judged.{Ruled, Judgeable, Ready, Between, Concluded};
-ghost use Rattle.checker.specs.Reports.{CheckedAs};
-ghost use Rattle.paper.specs.Answers as Paper;
-ghost use lib.ListN.{length};
+ghost use Rattle.checker.specs.Reports.{CheckAllows};
 use lemma::Found;
 use lemma::Literals;
 use query::Refusal;
@@ -129,7 +127,7 @@ fn conclude(
 
 // Checks a query: whether any memories fit its guess. In a conflict the lemma's bytes stand first in the answer buffer.
 pub fn check(query: &[u8], answer: &mut [u8]) -> Checked
-    ensures { λ r. ⌜ CheckedAs (Paper.check 32 (now (query .entry)) (length (now (answer .entry)))) (now (answer .entry)) (now (answer .exit)) r ⌝ }
+    ensures { λ r. ⌜ CheckAllows (now (query .entry)) (now (answer .entry)) (now (answer .exit)) r ⌝ }
 {
     let loaded = terms::load(query);
     let number = loaded.refusal;

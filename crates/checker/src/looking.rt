@@ -3,8 +3,7 @@ ghost use mathlib.Core.Path.{_≡_};
 ghost use Prim.Native.Nat.{_<_, _≤_};
 ghost use Rattle.checker.specs.Held.{holdsOf, modelIn};
 ghost use Rattle.checker.specs.Judged.{LookedIn};
-ghost use Rattle.checker.specs.Reports.{lookReportOf, lookReported};
-ghost use Rattle.paper.specs.Answers as Paper;
+ghost use Rattle.checker.specs.Reports.{LookAllows};
 use crate::Looked;
 use crate::OTHER_VERDICT;
 use crate::Ruling;
@@ -88,7 +87,7 @@ fn look(
 
 // Looks one cell of the model up: the value at an array term and an index.
 pub fn lookup(query: &[u8], array: u64, index: u64) -> Looked
-    ensures { λ r. ⌜ lookReportOf r ≡ lookReported (Paper.look 32 (now (query .entry)) array index) ⌝ }
+    ensures { λ r. ⌜ LookAllows (now (query .entry)) array index r ⌝ }
 {
     let loaded = terms::load(query);
     let number = loaded.refusal;

@@ -1,9 +1,7 @@
 // The clause writer: the clauses of the lemma of a query in conflict.
 ghost use Prim.Native.Nat.{_≤_};
 ghost use Rattle.checker.specs.Judged.{Judgeable, WrittenIn};
-ghost use Rattle.checker.specs.Reports.{WrittenAs};
-ghost use Rattle.paper.specs.Answers as Paper;
-ghost use lib.ListN.{length};
+ghost use Rattle.checker.specs.Reports.{WriteAllows};
 use crate::NO_ROOM;
 use crate::OTHER_VERDICT;
 use crate::Ruling;
@@ -60,7 +58,7 @@ fn write(
 
 // Writes the clauses of a query in conflict: a run of signed numbers, each clause closed by 0.
 pub fn clauses(query: &[u8], numbers: &mut [i32]) -> Written
-    ensures { λ r. ⌜ WrittenAs (Paper.writeClauses 32 (now (query .entry)) (length (now (numbers .entry)))) (now (numbers .entry)) (now (numbers .exit)) r ⌝ }
+    ensures { λ r. ⌜ WriteAllows (now (query .entry)) (now (numbers .entry)) (now (numbers .exit)) r ⌝ }
 {
     let loaded = terms::load(query);
     let number = loaded.refusal;

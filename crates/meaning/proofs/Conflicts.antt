@@ -2,6 +2,7 @@
 -- Assumes nothing.
 use Prim.Native.Nat.{ℕ, zero, suc, _<_, _≤_}
 use native.Mathlib.Nat.{le-refl}
+use native.Mathlib.Omega.{arith}
 use mathlib.Core.Path.{_≡_, refl, sym, ap, _∙_, subst}
 use mathlib.Core.Logic.{_⊎_, inl, inr, _≢_}
 use mathlib.Core.Bool.{Bool, true, false, cond, not, true≢false, false≢true}
@@ -14,13 +15,13 @@ use Rattle.paper.specs.Lists.{_∈_, mapOption, orElse, find, any}
 use Rattle.paper.specs.Fields.{base, boolean, array}
 use Rattle.paper.specs.Terms.{Term, given, Assignment}
 use Rattle.paper.specs.Edges.{indexNumber, Source, sources, Guard, Edge, edges, opens, openEdges}
-use Rattle.paper.specs.Reach.{Walk, indexValue, stepCost, distances, reachesAt, reaches}
+use Rattle.paper.specs.Reach.{Walk, indexValue, costs, stepCost, distances, reachesAt, reaches}
 use Rattle.paper.specs.Conflict.{Pair, conflicts, firstPair, conflict}
 use Rattle.paper.specs.Lemma.{Literal, literalOf, hypotheses, path, lemma, says, isConclusion, lemmaHolds}
 use Rattle.meaning.proofs.Lists.{find-in, find-none, find-first, keep-in, none-has, same-test}
 use Rattle.meaning.proofs.Walks.{walked-among}
 use Rattle.meaning.proofs.Distances.{entry-least}
-use Rattle.meaning.proofs.Paths.{Found, path-found}
+use Rattle.meaning.proofs.Paths.{Lowest, path-found}
 use Rattle.meaning.proofs.Given.{Numbered, GuardGiven, SourceGiven, edge-given, source-given, open-ranged, open-is-edge}
 use Rattle.meaning.proofs.Reach.{reached-walk}
 use Rattle.meaning.proofs.Literals.{hypothesis-is, not-conclusion, Within}
@@ -115,25 +116,49 @@ clash terms g s t e = indices (eqb (indexValue g s) (indexValue g t)) refl e
 eqb-swap : (m n : ℕ) → eqb m n ≡ eqb n m
 eqb-swap m n = same-test (eqb m n) (eqb n m) (λ e. eq-eqb n m (sym (eqb-true m n e))) (λ e. eq-eqb m n (sym (eqb-true n m e)))
 
-pub step-positive : (guard : Guard) → 0 < stepCost guard
+step-positive : (guard : Guard) → 0 < stepCost guard
 step-positive (Guard.differ index) = le-refl 1
 step-positive (Guard.isTrue m) = le-refl 1
 step-positive (Guard.isFalse m) = le-refl 1
+
+-- every step costs 1, so that a walk of least cost is one of fewest steps
+one-a-step : (walked : List Edge) → costs stepCost walked ≡ length walked
+one-a-step [] = refl
+one-a-step (edge ∷ walked) = rw (each (edge .guard), one-a-step walked) (omega arith)
+  where
+    each : (guard : Guard) → stepCost guard ≡ 1
+    each (Guard.differ index) = refl
+    each (Guard.isTrue m) = refl
+    each (Guard.isFalse m) = refl
+
+-- "The path is a shortest walk from s's origin to t's origin; at each step take the lowest-numbered open edge that leads one step nearer"
+pub record Shortest (terms : List Term) (g : Assignment) (pair : Pair) : Type 0 where
+  pub way : Walk (openEdges terms g (indexValue g (pair .first))) (pair .first .origin) (path terms g pair) (pair .later .origin)
+  pub fewest : (other : List Edge) → Walk (openEdges terms g (indexValue g (pair .first))) (pair .first .origin) other (pair .later .origin)
+      → length (path terms g pair) ≤ length other
+  pub lowest : Lowest stepCost (openEdges terms g (indexValue g (pair .first))) (pair .later .origin) (pair .first .origin) (path terms g pair)
+  pub short : length (path terms g pair) < given array terms
 
 module _ (terms : List Term) (numbered : Numbered terms) (g : Assignment) (pair : Pair) (one : Taken terms g (sources terms) (pair .first) (pair .later)) where
   known : Clash terms g (pair .first) (pair .later)
   known = clash terms g (pair .first) (pair .later) (one .clash)
 
-  -- the path of the pair has all that is promised of it, with its least cost d, and fewer steps than there are array terms
-  pub path-is : (d : ℕ) × Found stepCost (openEdges terms g (indexValue g (pair .first))) (given array terms) (pair .later .origin) (open-ranged terms numbered g (indexValue g (pair .first))) step-positive (pair .first .origin) d (path terms g pair)
-      × (length (path terms g pair) < given array terms)
+  -- the path of the pair has all that is promised of it
+  pub path-is : Shortest terms g pair
   unfolding path distances reaches
   path-is =
-      let way = reached-walk terms numbered g (indexValue g (pair .first)) (pair .first) (known .reached) in
+      let x = indexValue g (pair .first) in
+      let ranged = open-ranged terms numbered g x in
+      let way = reached-walk terms numbered g x (pair .first) (known .reached) in
       let first-here = taken-first terms g one in
-      let least = entry-least stepCost (openEdges terms g (indexValue g (pair .first))) (given array terms) (pair .later .origin) (open-ranged terms numbered g (indexValue g (pair .first))) (source-given terms numbered (pair .first) first-here .origin) (way .1) in
-      let found = path-found stepCost (openEdges terms g (indexValue g (pair .first))) (given array terms) (pair .later .origin) (open-ranged terms numbered g (indexValue g (pair .first))) step-positive (least .1) in
-      (least .0, found .0, found .1)
+      let least = entry-least stepCost (openEdges terms g x) (given array terms) (pair .later .origin) ranged (source-given terms numbered (pair .first) first-here .origin) (way .1) in
+      let (found, short) = path-found stepCost (openEdges terms g x) (given array terms) (pair .later .origin) ranged step-positive (least .1) in
+      record {
+        way = found .way;
+        fewest = λ other walk. omega (arith, found .total, found .least other walk, one-a-step (path terms g pair), one-a-step other);
+        lowest = found .lowest;
+        short = short;
+      }
 
   -- an open edge's literal holds under the guess
   open-says : (i : ℕ) (guard : Guard) → opens g (g .value i) guard ≡ says g (literalOf i guard)
@@ -150,7 +175,7 @@ module _ (terms : List Term) (numbered : Numbered terms) (g : Assignment) (pair 
           ⊎ ((edge : Edge) × (edge ∈ path terms g pair) × (l ≡ literalOf (indexNumber (pair .first .place)) (edge .guard))) → says g l ≡ true
       go (inl is) = rw is (eq-eqb (indexValue g (pair .first)) (indexValue g (pair .later)) (known .indices))
       go (inr along) =
-          let open-here = walked-among (path-is .1 .way) (along .0) (along .1) in
+          let open-here = walked-among (path-is .way) (along .0) (along .1) in
           rw (along .2)
           (sym (open-says (indexNumber (pair .first .place)) (along .0 .guard))
           ∙ keep-in (λ edge. opens g (indexValue g (pair .first)) (edge .guard)) (edges terms) open-here .1)
@@ -187,7 +212,7 @@ module _ (terms : List Term) (numbered : Numbered terms) (g : Assignment) (pair 
           ⊎ ((edge : Edge) × (edge ∈ path terms g pair) × (l ≡ literalOf (indexNumber (pair .first .place)) (edge .guard))) → Within (given base terms) (given boolean terms) l
       go (inl is) = rw is (first-given .place, later-given .place)
       go (inr along) =
-          let open-here = walked-among (path-is .1 .way) (along .0) (along .1) in
+          let open-here = walked-among (path-is .way) (along .0) (along .1) in
           rw (along .2)
           (guard-within (indexNumber (pair .first .place)) (first-given .place) (along .0 .guard)
           (edge-given terms numbered (along .0) (open-is-edge terms numbered g (indexValue g (pair .first)) (along .0) open-here) .guard))

@@ -9,7 +9,7 @@ use mathlib.Core.List.{List}
 use mathlib.Core.Option.{Option, none, some}
 use lib.IntN.{ℤ}
 use lib.ListN.{length}
-use Rattle.paper.specs.Lists.{all}
+use Rattle.paper.specs.Lists.{_∈_, all}
 use Rattle.paper.specs.Fields.{base, boolean, array}
 use Rattle.paper.specs.Terms.{given, Query, Assignment}
 use Rattle.paper.specs.Interpretations.{Memories, Interpretation, Consistent}
@@ -17,6 +17,7 @@ use Rattle.paper.specs.Load.{Loaded, load}
 use Rattle.paper.specs.Conflict.{Pair}
 use Rattle.paper.specs.Lemma.{Literal, lemmaHolds, lemmaBytes}
 use Rattle.paper.specs.Clauses.{run, clausesOf, clauseHolds, assignmentOf}
+use Rattle.paper.specs.Reading.{readLemma, readRun}
 use Rattle.paper.specs.Answers.{Verdict, Checked, checkRefused, check, Looked, lookRefused, look, Written, writeRefused, writeClauses}
 use Rattle.meaning.proofs.Built.{AreBytes}
 use Rattle.meaning.proofs.Accepted.{Accepted, accepted}
@@ -25,6 +26,8 @@ use Rattle.meaning.proofs.Memories.{interprets-same}
 use Rattle.meaning.proofs.Called.{check-none, check-some, inConflict, look-none, write-none, write-some, clausesAre, written}
 use Rattle.meaning.proofs.Verdict.{numbered, model-fits, lemma-sound, lemma-false, lemma-names, conflict-refutes, literals-most}
 use Rattle.meaning.proofs.Clauses.{clauses-say-lemma}
+use Rattle.meaning.proofs.Variables.{Names, clauses-name}
+use Rattle.meaning.proofs.Reading.{lemma-read, clauses-read}
 use Rattle.meaning.proofs.Counts.{numbers-at-most, bytes-at-most}
 use Rattle.meaning.proofs.Bounds.{equal-once, pairs-bound}
 
@@ -53,13 +56,20 @@ Say w bases booleans clauses literals =
     → ((truth : ℕ → Bool) × ((v : ℕ) → v ≤ w * bases + booleans → truth v ≡ bits v) × (all (clauseHolds truth) clauses ≡ true))
     ↔ (lemmaHolds (assignmentOf w bases booleans bits) literals ≡ true)
 
--- What was written is clauses that say the lemma which the check gives
-pub record Clausal (w : ℕ) (bytes : List ℕ) (query : Query) (room : ℕ) : Type 0 where
+-- What is read off bytes is a lemma that rules the guess out
+pub record Lemma (w : ℕ) (query : Query) (bytes : List ℕ) : Type 0 where
+  pub literals : List Literal
+  pub read : readLemma bytes ≡ some literals
+  pub rules-out : RulesOut w query literals
+
+-- What is read off numbers is so many clauses over so many variables, which say the lemma that is read off bytes
+pub record Clausal (w : ℕ) (query : Query) (bytes : List ℕ) (numbers : List ℤ) (variables many : ℕ) : Type 0 where
   pub literals : List Literal
   pub clauses : List (List ℤ)
-  pub lemma-is : check w bytes 343 .written ≡ lemmaBytes literals
-  pub written-is : writeClauses w bytes room .written ≡ run clauses
-  pub count-is : writeClauses w bytes room .clauses ≡ length clauses
+  pub lemma-read : readLemma bytes ≡ some literals
+  pub run-read : readRun numbers ≡ some clauses
+  pub many-are : many ≡ length clauses
+  pub names : (clause : List ℤ) → clause ∈ clauses → (n : ℤ) → n ∈ clause → Names variables n
   pub say : Say w (given base (query .terms)) (given boolean (query .terms)) clauses literals
 
 -- The bounds of 01: pairs; literals and bytes of the lemma; numbers of its clauses at width 32
@@ -108,52 +118,58 @@ module _ (w : ℕ) (bytes : List ℕ) (query : Query) (are-bytes : AreBytes byte
       (ok .small)
       (model-fits ok (quiet room e))
 
-  pub conflict-rules-out : (room : ℕ) → check w bytes room .verdict ≡ Verdict.inConflict
-      → (literals : List Literal) × (check w bytes room .written ≡ lemmaBytes literals) × RulesOut w query literals
+  -- the pair, where the verdict says so
+  clash : (room : ℕ) → check w bytes room .verdict ≡ Verdict.inConflict → (pair : Pair) × (pairOf query ≡ some pair) × (check w bytes room .written ≡ lemmaBytes (lemmaOf query pair))
   unfolding code
-  conflict-rules-out room e = go (pairOf query) refl
+  clash room e = go (pairOf query) refl
     where
       by : (pair : Pair) → pairOf query ≡ some pair
           → ((length (lemmaBytes (lemmaOf query pair)) ≤ room) × (check w bytes room ≡ inConflict w bytes query loaded pair))
           ⊎ ((room < length (lemmaBytes (lemmaOf query pair))) × (check w bytes room ≡ checkRefused 10 0))
-          → (literals : List Literal) × (check w bytes room .written ≡ lemmaBytes literals) × RulesOut w query literals
-      by pair found (inl (fits, is)) =
-          (lemmaOf query pair, ap (λ (one : Checked). one .written) is, record { everywhere = lemma-sound ok pair found; not-here = lemma-false ok pair found })
-      by pair found (inr (fits, is)) = let z : _≡_ {A = ℕ} 2 1 = ap (λ (one : Checked). code (one .verdict)) (sym is) ∙ ap code e in absurd (omega arith)
+          → (pair : Pair) × (pairOf query ≡ some pair) × (check w bytes room .written ≡ lemmaBytes (lemmaOf query pair))
+      by pair found (inl (fits, is)) = (pair, found, ap (λ (one : Checked). one .written) is)
+      by pair found (inr (long, is)) = let z : _≡_ {A = ℕ} 2 1 = ap (λ (one : Checked). code (one .verdict)) (sym is) ∙ ap code e in absurd (omega arith)
 
-      go : (found : Option Pair) → pairOf query ≡ found → (literals : List Literal) × (check w bytes room .written ≡ lemmaBytes literals) × RulesOut w query literals
+      go : (found : Option Pair) → pairOf query ≡ found
+          → (pair : Pair) × (pairOf query ≡ some pair) × (check w bytes room .written ≡ lemmaBytes (lemmaOf query pair))
       go none is = let z : _≡_ {A = ℕ} 0 1 = ap (λ (one : Checked). code (one .verdict)) (sym (check-none w bytes query loaded room is)) ∙ ap code e in absurd (omega arith)
       go (some pair) is = by pair is (check-some w bytes query loaded room pair is)
 
-  pub clauses-exactly : (room : ℕ) → writeClauses w bytes room .refusal ≡ 0 → Clausal w bytes query room
-  unfolding Say
-  clauses-exactly room e = go (pairOf query) refl
-    where
-      checked : (pair : Pair) → pairOf query ≡ some pair
-          → ((length (lemmaBytes (lemmaOf query pair)) ≤ 343) × (check w bytes 343 ≡ inConflict w bytes query loaded pair))
-          ⊎ ((343 < length (lemmaBytes (lemmaOf query pair))) × (check w bytes 343 ≡ checkRefused 10 0))
-          → check w bytes 343 .written ≡ lemmaBytes (lemmaOf query pair)
-      checked pair found (inl (fits, is)) = ap (λ (one : Checked). one .written) is
-      checked pair found (inr (long, is)) = absurd (omega (arith, bytes-at-most (lemmaOf query pair), literals-most ok pair found))
+  pub conflict-rules-out : (room : ℕ) → check w bytes room .verdict ≡ Verdict.inConflict → Lemma w query (check w bytes room .written)
+  conflict-rules-out room e =
+      let (pair, found, bytes-are) = clash room e in
+      record {
+        literals = lemmaOf query pair;
+        read = ap readLemma bytes-are ∙ lemma-read (lemmaOf query pair);
+        rules-out = record { everywhere = lemma-sound ok pair found; not-here = lemma-false ok pair found };
+      }
 
-      by : (pair : Pair) → pairOf query ≡ some pair
-          → ((length (run (clausesAre w bytes query loaded pair)) ≤ room) × (writeClauses w bytes room ≡ written w bytes query loaded pair))
-          ⊎ ((room < length (run (clausesAre w bytes query loaded pair))) × (writeClauses w bytes room ≡ writeRefused 10 0))
-          → Clausal w bytes query room
-      by pair found (inl (fits, is)) =
+  pub clauses-exactly : (room : ℕ) → check w bytes room .verdict ≡ Verdict.inConflict → (run-room : ℕ) → writeClauses w bytes run-room .refusal ≡ 0
+      → Clausal w query (check w bytes room .written) (writeClauses w bytes run-room .written) (writeClauses w bytes run-room .variables) (writeClauses w bytes run-room .clauses)
+  unfolding Say
+  clauses-exactly room in-conflict run-room e =
+      let (pair, found, bytes-are) = clash room in-conflict in
+      by pair found bytes-are (write-some w bytes query loaded run-room pair found)
+    where
+      by : (pair : Pair) → pairOf query ≡ some pair → check w bytes room .written ≡ lemmaBytes (lemmaOf query pair)
+          → ((length (run (clausesAre w bytes query loaded pair)) ≤ run-room) × (writeClauses w bytes run-room ≡ written w bytes query loaded pair))
+          ⊎ ((run-room < length (run (clausesAre w bytes query loaded pair))) × (writeClauses w bytes run-room ≡ writeRefused 10 0))
+          → Clausal w query (check w bytes room .written) (writeClauses w bytes run-room .written) (writeClauses w bytes run-room .variables) (writeClauses w bytes run-room .clauses)
+      by pair found bytes-are (inl (fits, is)) =
           record {
             literals = lemmaOf query pair;
             clauses = clausesAre w bytes query loaded pair;
-            lemma-is = checked pair found (check-some w bytes query loaded 343 pair found);
-            written-is = ap (λ (one : Written). one .written) is;
-            count-is = ap (λ (one : Written). one .clauses) is;
+            lemma-read = ap readLemma bytes-are ∙ lemma-read (lemmaOf query pair);
+            run-read =
+                ap (λ (one : Written). readRun (one .written)) is
+                ∙ clauses-read w (given base (query .terms)) (given boolean (query .terms)) (lemmaOf query pair);
+            many-are = ap (λ (one : Written). one .clauses) is;
+            names =
+                rw (ap (λ (one : Written). one .variables) is)
+                (clauses-name w (given base (query .terms)) (given boolean (query .terms)) (lemmaOf query pair) (lemma-names ok pair found));
             say = clauses-say-lemma w (given base (query .terms)) (given boolean (query .terms)) (lemmaOf query pair) (lemma-names ok pair found);
           }
-      by pair found (inr (long, is)) = let z : _≡_ {A = ℕ} 10 0 = ap (λ (one : Written). one .refusal) (sym is) ∙ e in absurd (omega arith)
-
-      go : (found : Option Pair) → pairOf query ≡ found → Clausal w bytes query room
-      go none is = let z : _≡_ {A = ℕ} 12 0 = ap (λ (one : Written). one .refusal) (sym (write-none w bytes query loaded room is)) ∙ e in absurd (omega arith)
-      go (some pair) is = by pair is (write-some w bytes query loaded room pair is)
+      by pair found bytes-are (inr (long, is)) = let z : _≡_ {A = ℕ} 10 0 = ap (λ (one : Written). one .refusal) (sym is) ∙ e in absurd (omega arith)
 
   -- what 01 bounds, of an accepted query
   pub bounded : Bounded w query

@@ -13,24 +13,24 @@ use Rattle.paper.specs.Fields.{array}
 use Rattle.paper.specs.Terms.{given, Query}
 use Rattle.paper.specs.Interpretations.{Interpretation, Consistent}
 use Rattle.paper.specs.Load.{Loaded, load, maxBytes}
-use Rattle.paper.specs.Edges.{Source, sources, openEdges}
-use Rattle.paper.specs.Reach.{Reaches, indexValue, stepCost, reaches}
+use Rattle.paper.specs.Edges.{Source, sources}
+use Rattle.paper.specs.Reach.{Reaches, reaches}
 use Rattle.paper.specs.Conflict.{Pair}
-use Rattle.paper.specs.Lemma.{Literal, path, lemmaBytes}
+use Rattle.paper.specs.Lemma.{Literal}
 use Rattle.paper.specs.Clauses.{clausesOf, freshCount}
 use Rattle.paper.specs.Answers.{Verdict, check, checkRefused, look, lookRefused, writeClauses, writeRefused}
 use Rattle.meaning.proofs.Built.{AreBytes}
 use Rattle.meaning.proofs.Accepted.{accepted}
 use Rattle.meaning.proofs.Refusals as Refusals
 use Rattle.meaning.proofs.Reach as Reach
-use Rattle.meaning.proofs.Given.{open-ranged}
-use Rattle.meaning.proofs.Paths.{Found}
-use Rattle.meaning.proofs.Conflicts.{Taken, step-positive, path-is}
+use Rattle.meaning.proofs.Conflicts.{Taken, Shortest, path-is}
 use Rattle.meaning.proofs.Whole.{guessOf, pairOf, pairsOf}
 use Rattle.meaning.proofs.Verdict.{numbered, pair-taken}
 use Rattle.meaning.proofs.Counts as Counts
 use Rattle.meaning.proofs.Demands as Demands
-use Rattle.meaning.proofs.Demands.{RulesOut, Clausal, Bounded}
+use Rattle.meaning.proofs.Demands.{Lemma, Clausal, Bounded}
+use Rattle.meaning.proofs.Answered as Answered
+use Rattle.meaning.proofs.Answered.{IsAnswered}
 
 -- Demand 1. Every string of bytes has one answer, since the calls are functions of it. What is refused as it is read is refused by a
 -- number of 01's: 1 where it is too long, or else 2 to 9, at a place inside.
@@ -54,15 +54,25 @@ module _ (w : ℕ) (bytes : List ℕ) (query : Query) (are-bytes : AreBytes byte
       → Interpretation w (query .terms) (guessOf query) (λ a x. look w bytes a x .value)
   lookup-interprets = Demands.lookup-interprets w bytes query are-bytes loaded
 
-  -- In a conflict the bytes written are a lemma that holds in every interpretation of the terms and is false under the guess.
-  pub conflict-rules-out : (room : ℕ) → check w bytes room .verdict ≡ Verdict.inConflict
-      → (literals : List Literal) × (check w bytes room .written ≡ lemmaBytes literals) × RulesOut w query literals
+  -- In a conflict, what is read off the bytes written is a lemma that holds in every interpretation of the terms and is false under the guess.
+  pub conflict-rules-out : (room : ℕ) → check w bytes room .verdict ≡ Verdict.inConflict → Lemma w query (check w bytes room .written)
   conflict-rules-out = Demands.conflict-rules-out w bytes query are-bytes loaded
 
-  -- Demand 3. The numbers written are clauses that say exactly that lemma: at every assignment of bits to the terms, the fresh variables
-  -- can be set so that all clauses hold exactly if the lemma holds.
-  pub clauses-exactly : (room : ℕ) → writeClauses w bytes room .refusal ≡ 0 → Clausal w bytes query room
+  -- Demand 3. What is read off the numbers written says what is read off that lemma's bytes: at every assignment of bits to the terms, the
+  -- fresh variables can be set so that all clauses hold exactly if the lemma holds.
+  pub clauses-exactly : (room : ℕ) → check w bytes room .verdict ≡ Verdict.inConflict → (run-room : ℕ) → writeClauses w bytes run-room .refusal ≡ 0
+      → Clausal w query (check w bytes room .written) (writeClauses w bytes run-room .written) (writeClauses w bytes run-room .variables) (writeClauses w bytes run-room .clauses)
   clauses-exactly = Demands.clauses-exactly w bytes query are-bytes loaded
+
+  -- Answers come. With 343 bytes the verdict is "consistent" or "conflict", with the paper's pairs. With any other room the answer is the same,
+  -- or it is 10, and the answer is longer than the room.
+  pub check-answered : (room : ℕ) → 343 ≤ room → IsAnswered query (check w bytes room)
+  check-answered = Answered.check-answered w bytes query are-bytes loaded
+
+  pub check-by-room : (room large : ℕ) → 343 ≤ large
+      → ((room < length (check w bytes large .written)) × (check w bytes room ≡ checkRefused 10 0))
+      ⊎ ((length (check w bytes large .written) ≤ room) × (check w bytes room ≡ check w bytes large))
+  check-by-room = Answered.check-by-room w bytes query are-bytes loaded
 
   -- Bounds: 14,496 pairs, 49 literals, 343 bytes, 12,625 numbers.
   pub bounded : Bounded w query
@@ -83,19 +93,21 @@ module _ (w : ℕ) (bytes : List ℕ) (query : Query) (are-bytes : AreBytes byte
   pub pair-least : (pair : Pair) → pairOf query ≡ some pair → Taken (query .terms) (guessOf query) (sources (query .terms)) (pair .first) (pair .later)
   pair-least = pair-taken (accepted w bytes query are-bytes loaded)
 
-  -- Its path is a walk of open edges between the origins, none is shorter, each step is the lowest-numbered open edge that leads one step
-  -- nearer, and it has fewer steps than there are array terms.
-  pub path-shortest : (pair : Pair) (found : pairOf query ≡ some pair)
-      → (d : ℕ)
-      × Found stepCost (openEdges (query .terms) (guessOf query) (indexValue (guessOf query) (pair .first))) (given array (query .terms)) (pair .later .origin)
-      (open-ranged (query .terms) (numbered (accepted w bytes query are-bytes loaded)) (guessOf query) (indexValue (guessOf query) (pair .first)))
-      step-positive
-      (pair .first .origin)
-      d
-      (path (query .terms) (guessOf query) pair)
-      × (length (path (query .terms) (guessOf query) pair) < given array (query .terms))
+  -- Its path is a walk of open edges between the two origins; of all such walks none has fewer steps; each step is the lowest-numbered open
+  -- edge that leads one step nearer; and it has fewer steps than there are array terms.
+  pub path-shortest : (pair : Pair) → pairOf query ≡ some pair → Shortest (query .terms) (guessOf query) pair
   path-shortest pair found =
       path-is (query .terms) (numbered (accepted w bytes query are-bytes loaded)) (guessOf query) pair (pair-least pair found)
+
+-- The same of the clauses at width 32, with 12,625 numbers: those of every query that no memories fit are written.
+pub clauses-answered : (bytes : List ℕ) (query : Query) → AreBytes bytes → load 32 bytes ≡ Loaded.accepted query → (Consistent 32 query → ⊥)
+    → (room : ℕ) → 12625 ≤ room → writeClauses 32 bytes room .refusal ≡ 0
+clauses-answered = Answered.clauses-answered
+
+pub clauses-by-room : (bytes : List ℕ) (query : Query) → AreBytes bytes → load 32 bytes ≡ Loaded.accepted query → (room large : ℕ) → 12625 ≤ large
+    → ((room < length (writeClauses 32 bytes large .written)) × (writeClauses 32 bytes room ≡ writeRefused 10 0))
+    ⊎ ((length (writeClauses 32 bytes large .written) ≤ room) × (writeClauses 32 bytes room ≡ writeClauses 32 bytes large))
+clauses-by-room = Answered.clauses-by-room
 
 -- With y "equal" and z fresh e's, the clauses are 2w(y+z)+1 and the fresh variables wy+z: 64(y+z)+1 and 32y+z at width 32.
 pub clause-count : (w bases booleans : ℕ) (literals : List Literal)

@@ -21,12 +21,15 @@ pub mod Mapped
 pub mod Bits
 pub mod Gadgets
 pub mod Named
+pub mod Variables
 pub mod Clauses
 pub mod Counts
+pub mod Reading
 pub mod Bounds
 pub mod Memories
 pub mod Whole
 pub mod Called
 pub mod Verdict
 pub mod Demands
+pub mod Answered
 pub mod Headline

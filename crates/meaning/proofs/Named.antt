@@ -18,7 +18,7 @@ use Rattle.meaning.proofs.Gadgets.{Truths, signedSays, clauseSays, valu
 
 module _ (every : List Gadget) {s : Signed} where
   -- what is in the linking clause is in a gadget's link
-  linking-in : s ∈ linking every → (one : Gadget) × (one ∈ every) × (s ∈ one .link)
+  pub linking-in : s ∈ linking every → (one : Gadget) × (one ∈ every) × (s ∈ one .link)
   linking-in here = ranks (List·Memᴰ·append-cases (linksOf 0 every ++ linksOf 1 every) here)
     where
       ranked : (b : Bool) {links : List Signed} → s ∈ cond b links [] → s ∈ links

@@ -118,6 +118,7 @@ module _ (cost : Guard → ℕ) (among : List Edge) (n goal : ℕ) (ranged : Ran
     pub record Found (a d : ℕ) (path : List Edge) : Type 0 where
       pub way : Walk among a path goal
       pub total : costs cost path ≡ d
+      pub least : (other : List Edge) → Walk among a other goal → d ≤ costs cost other
       pub lowest : Lowest cost among goal a path
       pub falls : (x : ℕ) → x ∈ visited way → (e : ℕ) × (entry cost among n goal n x ≡ some e) × (e ≤ d)
       pub distinct : Distinct (visited way)
@@ -130,6 +131,7 @@ module _ (cost : Guard → ℕ) (among : List Edge) (n goal : ℕ) (ranged : Ran
             record {
               way = stay;
               total = sym (omega (arith, entry-is-least e .least [] stay));
+              least = entry-is-least e .least;
               lowest = arrived;
               falls = λ x here. (d, subst (λ (y : ℕ). entry cost among n goal n y ≡ some d) (sym (List·Memᴰ·eq-of-singleton here)) e, le-refl d);
               distinct = ((λ here. List·Memᴰ·not-nil here), tt);
@@ -145,6 +147,7 @@ module _ (cost : Guard → ℕ) (among : List Edge) (n goal : ℕ) (ranged : Ran
         record {
           way = step (passes .0) joined (rest .way);
           total = ap (λ (x : ℕ). cost (edge .guard) + x) (rest .total) ∙ sums;
+          least = entry-is-least e .least;
           lowest =
               onward (split .0) (split .1) (split .2) (leads-nearer edge (passes .1))
               (λ other earlier nearer.

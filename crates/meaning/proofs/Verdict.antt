@@ -46,7 +46,7 @@ module _ {w : ℕ} {query : Query} (ok : Accepted w query) where
         (taken-first (query .terms) (guessOf query) pair-taken)
         (taken-later (query .terms) (guessOf query) pair-taken)
         (walk-among (open-is-edge (query .terms) numbered (guessOf query) (guessOf query .value _))
-        (path-is (query .terms) numbered (guessOf query) pair pair-taken .1 .way))
+        (path-is (query .terms) numbered (guessOf query) pair pair-taken .way))
 
     -- and is false under the guess
     pub lemma-false : lemmaHolds (guessOf query) (lemmaOf query pair) ≡ false
@@ -66,5 +66,5 @@ module _ {w : ℕ} {query : Query} (ok : Accepted w query) where
     pub literals-most : length (lemmaOf query pair) ≤ 49
     literals-most =
         literals-bound (query .terms) (guessOf query) pair
-        (path-is (query .terms) numbered (guessOf query) pair pair-taken .2)
+        (path-is (query .terms) numbered (guessOf query) pair pair-taken .short)
         (arrays-bound ok)

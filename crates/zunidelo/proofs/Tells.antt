@@ -1,16 +1,23 @@
--- What a report of the public function's answer tells is what the paper's answer tells: an answer is the paper's, so its numbers are.
+-- What a report of the public function's answer tells is what the paper's answer tells: an answer is the paper's, so its numbers are. And
+-- what the returned number tells.
 -- Assumes nothing.
-use mathlib.Core.Path.{_≡_, sym, ap, _∙_}
-use mathlib.Core.List.{List}
 use Prim.Native.Nat.{ℕ}
+use native.Mathlib.Omega.{arith}
+use mathlib.Core.Path.{_≡_, refl, sym, ap, _∙_}
+use mathlib.Core.Bool.{Bool, true, false, not}
+use mathlib.Core.List.{List}
+use borrow.Author.Tests.{eqb-true}
+use lib.Dec.{eqb}
 use lib.IntN.{ℤ}
+use lib.ListN.{take, drop}
 use Rattle.paper.specs.Answers.{Verdict}
 use Rattle.paper.specs.Answers as Paper
 use Rattle.checker.specs.declared.Checked.{Checked}
 use Rattle.checker.specs.declared.Looked.{Looked}
 use Rattle.checker.specs.declared.Written.{Written}
 use Rattle.checker.specs.Reports.{reportOf, CheckedAs, lookReportOf, lookReported, writeReportOf, WrittenAs}
-use Rattle.zunidelo.specs.Told.{returned, unlessRefused, checkNumbers, lookNumbers, writeNumbers, CheckTold, LookTold, WriteTold}
+use Rattle.checker.proofs.Told.{front, rest}
+use Rattle.zunidelo.specs.Told.{place, returned, unlessRefused, checkNumbers, lookNumbers, writeNumbers, CheckTold, LookTold, WriteTold}
 
 -- an answer r that is the case `one` of its enum
 pub check-tells : (answer : Paper.Checked) (before after : List ℕ) (r one : Checked) → r ≡ one → CheckedAs answer before after r
@@ -38,3 +45,36 @@ write-tells answer before after r one same is =
       reports = ap writeNumbers (sym (ap writeReportOf same) ∙ is .report);
       buffer = is .run;
     }
+
+-- what is returned tells the verdict, and of the clause writer that nothing was refused
+pub returned-consistent : (verdict : Verdict) → returned verdict ≡ 0 → verdict ≡ Verdict.consistent
+returned-consistent Verdict.consistent is = refl
+returned-consistent Verdict.inConflict is = absurd (omega (arith, is))
+returned-consistent Verdict.refused is = absurd (omega (arith, is))
+
+pub returned-conflict : (verdict : Verdict) → returned verdict ≡ 1 → verdict ≡ Verdict.inConflict
+returned-conflict Verdict.consistent is = absurd (omega (arith, is))
+returned-conflict Verdict.inConflict is = refl
+returned-conflict Verdict.refused is = absurd (omega (arith, is))
+
+pub returned-written : (refusal : ℕ) → returned (unlessRefused (not (eqb refusal 0)) Verdict.inConflict) ≡ 1 → refusal ≡ 0
+returned-written refusal = go (eqb refusal 0) refl
+  where
+    go : (none : Bool) → eqb refusal 0 ≡ none → returned (unlessRefused (not none) Verdict.inConflict) ≡ 1 → refusal ≡ 0
+    go true e is = eqb-true refusal 0 e
+    go false e is = absurd (omega (arith, is))
+
+-- what the paper's answer writes stands first in the buffer, as many elements as are reported; the rest stays
+module _ {answer : Paper.Checked} {before after report : List ℕ} {r : ℕ} (told : CheckTold answer before after report r) where
+  pub check-front : take (place report 3) after ≡ answer .written
+  check-front = front before after (answer .written) (place report 3) (ap (λ numbers. place numbers 3) (told .reports)) (told .buffer)
+
+  pub check-rest : drop (place report 3) after ≡ drop (place report 3) before
+  check-rest = rest before after (answer .written) (place report 3) (ap (λ numbers. place numbers 3) (told .reports)) (told .buffer)
+
+module _ {answer : Paper.Written} {before after : List ℤ} {report : List ℕ} {r : ℕ} (told : WriteTold answer before after report r) where
+  pub write-front : take (place report 4) after ≡ answer .written
+  write-front = front before after (answer .written) (place report 4) (ap (λ numbers. place numbers 4) (told .reports)) (told .buffer)
+
+  pub write-rest : drop (place report 4) after ≡ drop (place report 4) before
+  write-rest = rest before after (answer .written) (place report 4) (ap (λ numbers. place numbers 4) (told .reports)) (told .buffer)

@@ -1,7 +1,5 @@
 // What a program in C or Rust links (include/zunidelo.h): each function reports as numbers what the public function of its name answers.
-ghost use Rattle.zunidelo.specs.Told.{CheckTold, LookTold, WriteTold};
-ghost use Rattle.paper.specs.Answers as Paper;
-ghost use lib.ListN.{length};
+ghost use Rattle.zunidelo.specs.Told.{CheckTells, LookTells, WriteTells};
 use checker::Checked;
 use checker::Looked;
 use checker::Written;
@@ -16,7 +14,7 @@ const REFUSED: u32 = 2;
 // Checks a query. The report: number and offset of the refusal, pairs, length of the lemma.
 #[no_mangle]
 pub extern "C" fn zunidelo_check(query: &[u8], answer: &mut [u8], report: &mut [u64; 4]) -> u32
-    ensures { λ r. ⌜ CheckTold (Paper.check 32 (now (query .entry)) (length (now (answer .entry)))) (now (answer .entry)) (now (answer .exit)) (now (report .exit)) r ⌝ }
+    ensures { λ r. ⌜ CheckTells (now (query .entry)) (now (answer .entry)) (now (answer .exit)) (now (report .exit)) r ⌝ }
 {
     match checker::check(query, answer) {
         Checked::Refused(refusal) => {
@@ -42,7 +40,7 @@ pub extern "C" fn zunidelo_lookup(
     index: u64,
     report: &mut [u64; 4],
 ) -> u32
-    ensures { λ r. ⌜ LookTold (Paper.look 32 (now (query .entry)) array index) (now (report .exit)) r ⌝ }
+    ensures { λ r. ⌜ LookTells (now (query .entry)) array index (now (report .exit)) r ⌝ }
 {
     match checker::lookup(query, array, index) {
         Looked::Refused(refusal) => {
@@ -59,7 +57,7 @@ pub extern "C" fn zunidelo_lookup(
 // Writes the clauses. The report: number and offset of the refusal, variables, clauses, how many numbers were written.
 #[no_mangle]
 pub extern "C" fn zunidelo_clauses(query: &[u8], numbers: &mut [i32], report: &mut [u64; 5]) -> u32
-    ensures { λ r. ⌜ WriteTold (Paper.writeClauses 32 (now (query .entry)) (length (now (numbers .entry)))) (now (numbers .entry)) (now (numbers .exit)) (now (report .exit)) r ⌝ }
+    ensures { λ r. ⌜ WriteTells (now (query .entry)) (now (numbers .entry)) (now (numbers .exit)) (now (report .exit)) r ⌝ }
 {
     match checker::clauses(query, numbers) {
         Written::Refused(refusal) => {
