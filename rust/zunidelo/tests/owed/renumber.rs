@@ -5,14 +5,13 @@
 /// The clauses of one call in the solver's variables. `terms` has those of
 /// the query's bits and Booleans, in order; from `next` on nothing is used.
 pub fn renumber(call: &zunidelo::Clauses, terms: &[i32], next: &mut i32) -> Vec<Vec<i32>> {
-    let own = |number: &i32| {
-        let place = number.unsigned_abs() as usize - 1;
-        let fresh = || *next + (place - terms.len()) as i32;
-        number.signum() * terms.get(place).copied().unwrap_or_else(fresh)
-    };
-    let clauses = call.clauses.iter().map(|clause| clause.iter().map(own).collect()).collect();
+    let shift = *next - terms.len() as i32 - 1;
     *next += (call.variables - terms.len()) as i32;
-    clauses
+    let own = |number: &i32| {
+        let term = terms.get(number.unsigned_abs() as usize - 1);
+        number.signum() * term.copied().unwrap_or(number.abs() + shift)
+    };
+    call.clauses.iter().map(|clause| clause.iter().map(own).collect()).collect()
 }
 // to here
 
@@ -22,7 +21,7 @@ fn the_page_has_these_lines() {
     let start = source.find("// from here\n").expect("a mark") + "// from here\n".len();
     let end = source.find("// to here\n").expect("a mark");
     let lines = &source[start..end];
-    assert_eq!(lines.lines().count(), 12);
+    assert_eq!(lines.lines().count(), 11);
     let block = format!("```rust\n{lines}```\n");
     assert!(include_str!("../../../../docs/FORMAT.md").contains(&block), "{block}");
 }
