@@ -65,6 +65,8 @@
  *     11  lookup: no such array term in the query, or an index of 2^32 or more
  *     12  lookup on a query in conflict; clauses for a consistent query
  *
+ * FORMAT of a query, of the lemma and of the clauses, and what a loop of guesses owes: docs/FORMAT.md.
+ *
  * LINK with libzunidelo.a. The library calls nothing but memcpy and memset.
  */
 #ifndef ZUNIDELO_H
@@ -95,6 +97,9 @@ uint32_t zunidelo_lookup(const uint8_t *query, size_t query_len, uint64_t array,
 
 /* Writes the clauses of a query in conflict: signed numbers of variables, each clause closed by 0. The first report[4] of numbers are
  * written; all others, and all where the call is refused, stay. numbers_len counts numbers, not bytes.
+ * The fresh variables of every call start at the same number, the first after those of the terms: give each call's fresh variables
+ * numbers that nothing else has before clauses of two calls meet in one solver, or it will call satisfiable problems unsatisfiable.
+ * docs/FORMAT.md shows how, and says what else the caller owes.
  * Returns ZUNIDELO_CONFLICT or ZUNIDELO_REFUSED. report: number, offset, variables, clauses, count of numbers. */
 uint32_t zunidelo_clauses(const uint8_t *query, size_t query_len, int32_t *numbers, size_t numbers_len, uint64_t report[5]);
 

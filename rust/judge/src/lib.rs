@@ -4,7 +4,7 @@
 mod clauses;
 pub mod every;
 pub mod field;
-mod interpretation;
+pub mod interpretation;
 mod judgement;
 mod lemma;
 pub mod random;

@@ -3,7 +3,8 @@
 use std::fmt;
 
 /// Clauses that say exactly the lemma. A literal is the number of a variable,
-/// or the number's negative.
+/// or the number's negative. The fresh variables are to be renumbered, as
+/// [`clauses`](crate::clauses()) says.
 #[derive(Debug, Clone, PartialEq, Eq, Hash)]
 pub struct Clauses {
     /// How many variables there are, used or not: 32 for each base term, one

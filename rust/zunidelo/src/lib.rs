@@ -14,6 +14,9 @@
 //! They keep no state and can be called from any thread. [`check_into`] and
 //! [`clauses_into`] write into a buffer of the caller's and allocate nothing.
 //!
+//! The page `docs/FORMAT.md` of the product has the format of a query, of the
+//! lemma and of the clauses, and what a loop of guesses owes.
+//!
 //! # Example
 //!
 //! Two base terms of value 5, an array, and two reads of it: 7 at the one
@@ -179,6 +182,12 @@ pub fn lookup(query: &[u8], array: u64, index: u64) -> Result<u64, Refusal> {
 
 /// The clauses that say exactly the lemma of a query in conflict.
 ///
+/// The fresh variables of every call start at the same number, the first after
+/// those of the terms: give each call's fresh variables numbers that nothing
+/// else has before clauses of two calls meet in one solver, or it will call
+/// satisfiable problems unsatisfiable. The page `docs/FORMAT.md` shows how, and
+/// says what else the caller owes.
+///
 /// ```
 /// use zunidelo::{clauses, Refusal};
 ///
@@ -191,6 +200,7 @@ pub fn clauses(query: &[u8]) -> Result<Clauses, Refusal> {
 }
 
 /// Writes the clauses of a query in conflict into the run, each closed by 0.
+/// Their fresh variables are to be renumbered, as for [`clauses`].
 ///
 /// A refused call changes no number of the run. A run that is too short is
 /// [`Refusal::BufferTooShort`]; [`CLAUSE_NUMBERS`] are always enough.
