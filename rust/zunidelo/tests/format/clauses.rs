@@ -52,7 +52,7 @@ fn row([literal, fresh, clauses, linking]: &[String; 4]) -> (String, Row) {
 }
 
 fn rank(group: &str) -> usize {
-    let words = ["first", "second"];
+    let words = ["first", "second", "third"];
     words.iter().position(|word| *word == group).unwrap_or_else(|| panic!("a group: {group}"))
 }
 
@@ -129,7 +129,7 @@ fn literal((positive, _): (bool, char), variable: usize) -> i32 {
 fn made(lemma: &[(String, Vec<usize>)], mut numbering: Numbering) -> Vec<Vec<i32>> {
     let rows = rows();
     let mut clauses = Vec::new();
-    let mut groups = [vec![], vec![]];
+    let mut groups = [vec![], vec![], vec![]];
     for (word, numbers) in lemma {
         let row = rows.get(word).unwrap_or_else(|| panic!("no row for {word}"));
         for k in 0..WIDTH {
