@@ -5,8 +5,9 @@
 run:
 	@examples/run
 
+# run even where make is told to print and not to run
 test:
-	@tests/run
+	+@tests/run
 
 # the archive that C and Rust link, made again where a source is newer
 archive = target/lib/libzunidelo.a
