@@ -15,6 +15,7 @@ pub mod memory;
 pub mod mutate;
 pub mod plan;
 pub mod product;
+pub mod progress;
 pub mod request;
 pub mod rooms;
 pub mod run;
