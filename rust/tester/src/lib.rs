@@ -5,6 +5,7 @@ pub mod arguments;
 pub mod bounds;
 pub mod builder;
 pub mod cases;
+pub mod cells;
 pub mod compare;
 pub mod drop_fields;
 pub mod exhaustive;

@@ -8,9 +8,6 @@ use crate::run::Run;
 use crate::summary::Summary;
 use std::path::Path;
 
-/// No injected fault needs a larger query than this.
-const SMALL: usize = 120;
-
 /// Tries the faults in the second program's answers, then in the library's.
 pub fn selftest(seed: u64, count: u64) -> Result<(), String> {
     let in_second = try_faults("second", &mut Reference, seed, count)?;
@@ -52,7 +49,7 @@ fn run(
         return Err(format!("{fault:?}: {} differences found", found.len()));
     }
     let largest = found.iter().map(|difference| difference.request.query.len()).max().unwrap_or(0);
-    if largest > SMALL {
+    if largest > fault.small() {
         return Err(format!("{fault:?}: shrunk only to {largest} bytes"));
     }
     Ok(largest)

@@ -18,7 +18,7 @@ fn shows_no_difference_and_every_bound(name: &str, product: &[&str]) {
     assert!(output.status.success(), "{text}");
     assert!(text.ends_with("\n200 queries compared, no difference\n"), "{text}");
     let bounds = "14496 consistent, 14496 in conflict; longest lemma: 49 literals, 343 bytes; \
-                  longest run: 12625 numbers";
+                  longest run: 12625 numbers; most cells of one array: 256";
     assert!(text.contains(bounds), "{text}");
     for number in 1..=12 {
         assert!(text.contains(&format!("refused {number:>2} ")), "{number}: {text}");
