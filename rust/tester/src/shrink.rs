@@ -14,7 +14,8 @@ const MOST_TRIES: usize = 20_000;
 /// How many candidates are asked about at once.
 const BATCH: usize = 32;
 
-/// Queries longer than this are not shrunk byte by byte.
+/// Queries longer than this are not shrunk byte by byte, nor are their
+/// numbers lessened: it would take long, and they would be hardly plainer.
 const LONG: usize = 200;
 
 /// The smallest difference found from this one by shrinking it.
@@ -112,6 +113,9 @@ fn without_runs(request: &Request, length: usize) -> Vec<Request> {
 
 /// Each field in turn with one of its numbers less: 0, half, or one less.
 fn lessened(request: &Request) -> Vec<Request> {
+    if request.query.len() > LONG {
+        return Vec::new();
+    }
     let (fields, rest) = decode(&request.query);
     let mut queries = Vec::new();
     for (place, field) in fields.iter().enumerate() {
