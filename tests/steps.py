@@ -16,7 +16,8 @@ passed = failed = 0
 
 
 def say(line):
-    print(line, flush=True)
+    # in one piece, so that lines of two threads do not mix
+    print(line + "\n", end="", flush=True)
 
 
 def fail(what):
