@@ -171,7 +171,11 @@ static void lookups(const char *name, const uint8_t *query, size_t length) {
     struct dirent *file;
     char start[300];
     snprintf(start, sizeof start, "%s.lookup-", name);
-    while (files != NULL && (file = readdir(files)) != NULL) {
+    if (files == NULL) {
+        count(0, name, "the stored lookups", 0);
+        return;
+    }
+    while ((file = readdir(files)) != NULL) {
         uint64_t array, index, value, number, offset, report[5];
         if (strncmp(file->d_name, start, strlen(start)) != 0) continue;
         sscanf(file->d_name + strlen(start), "%" SCNu64 "-%" SCNu64, &array, &index);
@@ -183,7 +187,7 @@ static void lookups(const char *name, const uint8_t *query, size_t length) {
         uint32_t r = zunidelo_lookup(query, length, array, index, report);
         count(r == (refused ? ZUNIDELO_REFUSED : ZUNIDELO_CONSISTENT) && same_report(report, expected, 5), file->d_name, "lookup", 0);
     }
-    if (files != NULL) closedir(files);
+    closedir(files);
 }
 
 int main(int words, char **word) {

@@ -158,6 +158,24 @@ def all_pairs(last):
 known("all-pairs", all_pairs(7), ["consistent 14496"] + [f"{array} 1 7" for array in range(48)], None, [(47, 1, "7"), (47, 7, "0")])
 known("all-pairs-conflict", all_pairs(8), ["conflict 14496", "then 1 255"], None, [(0, 1, "refused 12 0")])
 
+# As many index values in one array as there may be, 256, one for each base term. Base term n is 3^n modulo 257, a prime of which 3 is a
+# primitive root: so each number from 1 to 256 is the value of one base term, and they do not rise from term to term. Each read is at the
+# base term before it, and holds the next one; the write puts the first at the last. So the write holds 3i modulo 257 at each i from 1 to
+# 256, and the variable beneath the same but for the written index. Each read reaches both arrays, the write itself alone: 511 pairs.
+POWERS = [pow(3, n, 257) for n in range(256)]
+MOST_CELLS = [base(POWERS[0]), variable()] + [read(POWERS[n], 0, n - 1) for n in range(1, 256)] + [write(0, 255, 0)]
+CELLS = [f"{array} {index} {3 * index % 257}" for array in (0, 1) for index in range(1, 257) if (array, index) != (0, POWERS[255])]
+CELL_LOOKUPS = [(0, 86, "0"), (1, 86, "1"), (0, 256, "254"), (1, 256, "254"), (0, 1, "3"), (1, 0, "0"), (1, 257, "0"), (2, 1, "refused 11 0")]
+assert len(CELLS) == 255 + 256 and POWERS[255] == 86
+known("most-cells", MOST_CELLS, ["consistent 511"] + CELLS, None, CELL_LOOKUPS)
+
+# As many sources as there may be, 302, of which the last alone gives one of the cells, in the last of 48 arrays. 255 reads of A0 at index
+# 0, and above it a chain of writes: 46 at index 0 and one at index 7, each of the value 7. An edge of the 46 is closed to index 0, so what
+# they write stays there, but for that of the last of them, which passes the edge of the write at index 7: 255 + 46 + 1 + 1 pairs.
+LAST_SOURCE = [base(0), variable()] + [read(7, 0, 0)] * 255 + [write(1, 0, n) for n in range(46)] + [write(1, 1, 46)]
+LAST_LOOKUPS = [(0, 0, "7"), (46, 7, "0"), (47, 0, "7"), (47, 7, "7"), (47, 1, "0"), (48, 0, "refused 11 0")]
+known("last-source", LAST_SOURCE, ["consistent 303"] + [f"{array} 0 7" for array in range(48)] + ["47 7 7"], None, LAST_LOOKUPS)
+
 # --- what rt runs the programs on
 RUNS = {
     "verdict/stdin": b"".join(k6(0, 1)),

@@ -5,13 +5,17 @@ use crate::questions::{questions, Kind, Outcome};
 use crate::solvers::Solvers;
 use std::collections::BTreeMap;
 use tester::plan::query_of;
+use tester::progress::Progress;
 use tester::request::hex;
 
-/// Confirms everything; prints how often each kind was.
+/// Confirms everything; prints how often each kind was, and last how many
+/// answers were confirmed.
 pub fn run(solvers: &mut Solvers, seed: u64, count: u64) -> Result<(), String> {
     let mut confirmed: BTreeMap<Kind, usize> = BTreeMap::new();
+    let mut progress = Progress::begin();
     let mut refused = 0;
     for number in 0..count {
+        progress.tell(number as usize);
         let query = query_of(seed, number);
         let Ok(answers) = ask(&query) else {
             refused += 1;
@@ -31,6 +35,9 @@ pub fn run(solvers: &mut Solvers, seed: u64, count: u64) -> Result<(), String> {
         println!("  {count:>6}  {}", kind.words());
     }
     let all: usize = confirmed.values().sum();
-    println!("{count} queries, {refused} of them refused; {all} answers confirmed");
+    if all == 0 {
+        return Err("nothing was confirmed".to_string());
+    }
+    println!("{all} answers confirmed; {count} queries, {refused} of them refused");
     Ok(())
 }

@@ -54,5 +54,6 @@ fn beside(kept: &Request) -> Vec<Request> {
         Question::Lookup { array: 0, index: 0 },
         Question::Clauses { room: MAX_CLAUSE_NUMBERS as u16 },
     ];
-    questions.map(|question| Request { question, query: kept.query.clone() }).to_vec()
+    let others = questions.into_iter().filter(|question| *question != kept.question);
+    others.map(|question| Request { question, query: kept.query.clone() }).collect()
 }

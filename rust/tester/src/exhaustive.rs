@@ -3,10 +3,12 @@
 //! judge has decided the same queries by trying every interpretation.
 
 use crate::expected::{BUFFER_FILL, RUN_FILL};
+use crate::progress::Progress;
 use crate::request::hex;
 use judge::every::every;
 use judge::field::{encode, Field, Series};
 use second::{Checked, Refusal, Written, MAX_CLAUSE_NUMBERS, MAX_LEMMA_BYTES};
+use std::fmt::Debug;
 
 /// Values are below two to this many: 0 and 1.
 const WIDTH: u32 = 1;
@@ -32,13 +34,16 @@ struct Counts {
     calls: usize,
 }
 
-/// Compares all answers; prints how many there were.
-pub fn run(fields: usize) -> Result<(), String> {
+/// Compares all answers; prints how many there were, and answers how many
+/// queries they were about.
+pub fn run(fields: usize) -> Result<usize, String> {
     let mut counts = Counts::default();
+    let mut progress = Progress::begin();
     let mut wrong = None;
     every(WIDTH, fields, &mut |query| {
         if wrong.is_none() {
             wrong = compare_query(query, fields, &mut counts).err();
+            progress.tell(counts.queries + counts.damaged);
         }
     });
     if let Some(wrong) = wrong {
@@ -49,17 +54,17 @@ pub fn run(fields: usize) -> Result<(), String> {
          and {} damaged ones, {} refused",
         counts.queries, counts.conflicts, counts.damaged, counts.refused
     );
-    println!("{} calls compared, no difference", counts.calls);
-    Ok(())
+    println!("{} calls compared", counts.calls);
+    Ok(counts.queries + counts.damaged)
 }
 
 fn compare_query(fields: &[Field], most: usize, counts: &mut Counts) -> Result<(), String> {
     let query = encode(fields);
     let arrays = fields.iter().filter(|field| field.gives() == Series::Array).count() as u64;
-    counts.queries += 1;
     if let Checked::Conflict { .. } = compare(&query, arrays, counts)? {
         counts.conflicts += 1;
     }
+    counts.queries += 1;
     if fields.len() + FEWER_FIELDS <= most {
         compare_damaged(fields, &query, arrays, counts)?;
     }
@@ -79,10 +84,10 @@ fn compare_damaged(
         let changed =
             DAMAGES.map(|damage| [&query[..place], &[damage], &query[place + 1..]].concat());
         for damaged in changed.iter().map(Vec::as_slice).chain([&query[..place]]) {
-            counts.damaged += 1;
             if let Checked::Refused(_) = compare(damaged, arrays, counts)? {
                 counts.refused += 1;
             }
+            counts.damaged += 1;
         }
     }
     Ok(())
@@ -94,10 +99,9 @@ fn compare(query: &[u8], arrays: u64, counts: &mut Counts) -> Result<Checked, St
     compare_clauses(query, counts)?;
     for array in 0..=arrays {
         for index in 0..INDICES {
-            counts.calls += 1;
             let expected = second::lookup(query, array, index);
             let answered = zunidelo::lookup(query, array, index).map_err(told);
-            same(query, &format!("lookup {array} {index}"), &expected, &answered)?;
+            counts.same(query, || format!("lookup {array} {index}"), &expected, &answered)?;
         }
     }
     Ok(checked)
@@ -112,9 +116,8 @@ fn compare_checks(query: &[u8], counts: &mut Counts) -> Result<Checked, String> 
         rooms.extend([lemma.len(), lemma.len() - 1]);
     }
     for room in rooms {
-        counts.calls += 1;
         let expected = (second::check(query, room), true);
-        same(query, &format!("check {room}"), &expected, &check(query, room))?;
+        counts.same(query, || format!("check {room}"), &expected, &check(query, room))?;
     }
     Ok(checked)
 }
@@ -124,9 +127,8 @@ fn compare_clauses(query: &[u8], counts: &mut Counts) -> Result<(), String> {
     let written = second::clauses(query, MAX_CLAUSE_NUMBERS);
     let length = written.map_or(0, |written| written.numbers.len());
     for room in [length + SPARE, length.saturating_sub(1)] {
-        counts.calls += 1;
         let expected = (second::clauses(query, room), true);
-        same(query, &format!("clauses {room}"), &expected, &clauses(query, room))?;
+        counts.same(query, || format!("clauses {room}"), &expected, &clauses(query, room))?;
     }
     Ok(())
 }
@@ -163,15 +165,21 @@ fn told(refusal: zunidelo::Refusal) -> Refusal {
     Refusal { number: refusal.number(), offset: refusal.offset() }
 }
 
-fn same<T: PartialEq + std::fmt::Debug>(
-    query: &[u8],
-    call: &str,
-    expected: &T,
-    answered: &T,
-) -> Result<(), String> {
-    if expected == answered {
-        return Ok(());
+impl Counts {
+    /// Compares what one call is to answer with what it answered.
+    fn same<T: PartialEq + Debug>(
+        &mut self,
+        query: &[u8],
+        call: impl Fn() -> String,
+        expected: &T,
+        answered: &T,
+    ) -> Result<(), String> {
+        if expected == answered {
+            self.calls += 1;
+            return Ok(());
+        }
+        let (call, query) = (call(), hex(query));
+        let both = format!("expected {expected:?}\nanswered {answered:?}");
+        Err(format!("DIFFERENCE\n{call}\nquery {query}\n{both}"))
     }
-    let query = hex(query);
-    Err(format!("DIFFERENCE\n{call}\nquery {query}\nexpected {expected:?}\nanswered {answered:?}"))
 }

@@ -30,9 +30,11 @@ pub enum Fault {
     SignTurned,
     /// A cell that no source reaches holds 1.
     EmptyCellFilled,
+    /// Cells beyond the 48th index value of one array are missing.
+    CellsCutOff,
 }
 
-pub const FAULTS: [Fault; 10] = [
+pub const FAULTS: [Fault; 11] = [
     Fault::BranchNotChosen,
     Fault::FalseEqualityFollowed,
     Fault::WriteTakenAsVariable,
@@ -43,7 +45,25 @@ pub const FAULTS: [Fault; 10] = [
     Fault::OffsetMoved,
     Fault::SignTurned,
     Fault::EmptyCellFilled,
+    Fault::CellsCutOff,
 ];
+
+/// How many cells of one array are left where they are cut off.
+const CELLS_LEFT: usize = 48;
+
+/// The bytes of an array variable, of a base term, and of a read.
+const FIELD_BYTES: [usize; 3] = [3, 7, 11];
+
+impl Fault {
+    /// No query that shows the fault needs to be larger than this.
+    pub fn small(self) -> usize {
+        let [variable, base, read] = FIELD_BYTES;
+        match self {
+            Fault::CellsCutOff => variable + (CELLS_LEFT + 1) * (base + read),
+            _ => 120,
+        }
+    }
+}
 
 /// The second program as a product.
 pub struct Reference;
@@ -101,6 +121,7 @@ impl FaultyProduct<'_> {
         match (self.fault, request.question) {
             (Fault::EqualLeftOut, Question::Verdict) => without_equal(&answer),
             (Fault::PairLost, Question::Verdict) => with_pair_lost(&answer),
+            (Fault::CellsCutOff, Question::Verdict) => with_cells_cut_off(&answer),
             (Fault::LastByteLost, Question::Check { .. }) => with_last_byte_lost(&answer),
             (Fault::RoomTooStrict, Question::Check { room }) => {
                 let exact = answer_length(request.question, &request.query);
@@ -134,6 +155,13 @@ fn with_pair_lost(answer: &str) -> String {
         Some(pairs) => format!("conflict {}\n{rest}", pairs - 1),
         None => answer.to_string(),
     }
+}
+
+fn with_cells_cut_off(answer: &str) -> String {
+    let lines: Vec<&str> = answer.split_inclusive('\n').collect();
+    let array = |line: &str| line.split(' ').next().map(str::to_string);
+    let arrays = lines.chunk_by(|one, next| array(one) == array(next));
+    arrays.flat_map(|cells| &cells[..cells.len().min(CELLS_LEFT)]).copied().collect()
 }
 
 fn with_last_byte_lost(answer: &str) -> String {

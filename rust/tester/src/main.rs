@@ -34,11 +34,11 @@ fn start(arguments: &Arguments) -> Result<(), String> {
     } else if arguments.selftest {
         selftest::selftest(arguments.seed, arguments.count)
     } else if let Some(fields) = arguments.exhaustive {
-        exhaustive::run(fields)
+        told(exhaustive::run(fields)?)
     } else if arguments.library {
         compare_with(&mut Library, arguments)
     } else if arguments.product.is_empty() {
-        compare_with_judge(arguments.seed, arguments.count)
+        told(compare_with_judge(arguments.seed, arguments.count)?)
     } else {
         compare_with(&mut ChildProduct::start(&arguments.product)?, arguments)
     }
@@ -55,25 +55,34 @@ fn compare_with(product: &mut dyn Product, arguments: &Arguments) -> Result<(), 
     };
     let found = run.all()?;
     print!("{}", run.summary);
-    if found.is_empty() {
-        println!("no difference");
-        Ok(())
-    } else {
-        Err(format!("{} differences, seed {}", found.len(), arguments.seed))
+    if !found.is_empty() {
+        return Err(format!("{} differences, seed {}", found.len(), arguments.seed));
     }
+    told(run.summary.queries)
+}
+
+/// The last line of a run that found no difference. It counts what was
+/// compared, and not what was asked for.
+fn told(queries: usize) -> Result<(), String> {
+    if queries == 0 {
+        return Err("nothing was compared".to_string());
+    }
+    println!("{queries} queries compared, no difference");
+    Ok(())
 }
 
 /// Without a product: the second program against the judge on tiny queries,
 /// half of them at width 1, half at width 2.
-fn compare_with_judge(seed: u64, count: u64) -> Result<(), String> {
-    let mut conflicts = 0;
+fn compare_with_judge(seed: u64, count: u64) -> Result<usize, String> {
+    let (mut compared, mut conflicts) = (0, 0);
     for number in 0..count {
         let (width, bits) = if number % 2 == 0 { (1, 14) } else { (2, 17) };
         let fields = tiny(&mut Random::for_number(seed, number), width, bits);
         let verdict = judge(&fields, width)
             .map_err(|wrong| format!("seed {seed} number {number}: {wrong}\n{fields:?}"))?;
+        compared += 1;
         conflicts += usize::from(verdict == Verdict::Conflict);
     }
-    println!("judge and second agree on {count} tiny queries, {conflicts} in conflict");
-    Ok(())
+    println!("judge and second agree on {compared} tiny queries, {conflicts} in conflict");
+    Ok(compared)
 }

@@ -15,6 +15,11 @@ impl Memory {
         Memory { cells: BTreeMap::new(), rest }
     }
 
+    /// The array with these cells, and 0 elsewhere.
+    pub fn of(cells: impl Iterator<Item = (u32, u32)>) -> Memory {
+        Memory { cells: cells.filter(|(_, value)| *value != 0).collect(), rest: 0 }
+    }
+
     pub fn at(&self, index: u32) -> u32 {
         self.cells.get(&index).copied().unwrap_or(self.rest)
     }

@@ -2,6 +2,7 @@
 //! the seed and the query's number alone.
 
 use crate::bounds::{all_pairs, longest_lemma, many_paths, Links};
+use crate::cells::{many_cells, most_cells};
 use crate::mutate::{lengthened, mutated, overfilled};
 use crate::request::{Question, Request};
 use crate::rooms::{answer_length, with_room};
@@ -11,7 +12,7 @@ use judge::random::Random;
 use second::{MAX_CLAUSE_NUMBERS, MAX_LEMMA_BYTES};
 
 /// How many queries at the start of every run are the constructed ones.
-const CONSTRUCTED: u64 = 8;
+const CONSTRUCTED: u64 = 11;
 
 /// All requests about the numbered query of a seed.
 pub fn requests(seed: u64, number: u64, wide_index: bool) -> Vec<Request> {
@@ -53,6 +54,10 @@ fn query(random: &mut Random, number: u64) -> Vec<u8> {
                 let query = shaped(random);
                 lengthened(random, query)
             }
+            38..=40 => {
+                let conflict = random.chance(50);
+                many_cells(random, conflict)
+            }
             _ => shaped(random),
         },
     }
@@ -65,7 +70,10 @@ fn constructed(random: &mut Random, which: u64) -> Vec<u8> {
         2 | 3 => longest_lemma(random, Links::Writes),
         4 | 5 => longest_lemma(random, Links::Any),
         6 => SHAPES[SHAPES.len() - 1].query(random),
-        _ => lengthened(random, Vec::new()),
+        7 => lengthened(random, Vec::new()),
+        8 => most_cells(random),
+        9 => many_cells(random, false),
+        _ => many_cells(random, true),
     }
 }
 

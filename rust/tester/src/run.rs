@@ -2,9 +2,10 @@
 //! are shrunk, printed and kept.
 
 use crate::cases;
-use crate::compare::{differences, Difference};
+use crate::compare::{compare, Comparison};
 use crate::plan::requests;
 use crate::product::Product;
+use crate::progress::Progress;
 use crate::request::{hex, Request};
 use crate::shrink::shrink;
 use crate::summary::Summary;
@@ -28,9 +29,10 @@ pub struct Run<'a> {
 impl Run<'_> {
     /// Asks everything, or up to the first batch with a difference; answers
     /// its differences, shrunk.
-    pub fn all(&mut self) -> Result<Vec<Difference>, String> {
+    pub fn all(&mut self) -> Result<Vec<Comparison>, String> {
         let kept = cases::load(self.cases)?;
         let mut found = self.batch(&kept, "kept cases")?;
+        let mut progress = Progress::begin();
         let mut number = 0;
         while number < self.count && found.is_empty() {
             let end = (number + BATCH).min(self.count);
@@ -39,28 +41,27 @@ impl Run<'_> {
                 .collect();
             let place = format!("seed {} queries {number} to {}", self.seed, end - 1);
             found = self.batch(&batch, &place)?;
+            progress.tell(self.summary.queries);
             number = end;
         }
         Ok(found)
     }
 
     /// One batch; of its differences the first for each kind of question.
-    fn batch(&mut self, requests: &[Request], place: &str) -> Result<Vec<Difference>, String> {
-        for request in requests {
-            self.summary.add(request, &self.product.expected(request));
-        }
-        let mut found: Vec<Difference> = Vec::new();
-        for difference in differences(self.product, requests) {
-            let kind = std::mem::discriminant(&difference.request.question);
-            let seen = |known: &Difference| std::mem::discriminant(&known.request.question) == kind;
-            if !found.iter().any(seen) {
-                found.push(self.report(difference, place)?);
+    fn batch(&mut self, requests: &[Request], place: &str) -> Result<Vec<Comparison>, String> {
+        let mut found: Vec<Comparison> = Vec::new();
+        for comparison in compare(self.product, requests) {
+            self.summary.add(&comparison);
+            let kind = std::mem::discriminant(&comparison.request.question);
+            let seen = |known: &Comparison| std::mem::discriminant(&known.request.question) == kind;
+            if comparison.differs() && !found.iter().any(seen) {
+                found.push(self.report(comparison, place)?);
             }
         }
         Ok(found)
     }
 
-    fn report(&mut self, difference: Difference, place: &str) -> Result<Difference, String> {
+    fn report(&mut self, difference: Comparison, place: &str) -> Result<Comparison, String> {
         let original = difference.request.query.len();
         let small = shrink(self.product, difference);
         let path = cases::keep(self.cases, &small.request)?;

@@ -8,21 +8,20 @@ use crate::run::Run;
 use crate::summary::Summary;
 use std::path::Path;
 
-/// No injected fault needs a larger query than this.
-const SMALL: usize = 120;
-
 /// Tries the faults in the second program's answers, then in the library's.
 pub fn selftest(seed: u64, count: u64) -> Result<(), String> {
-    try_faults("second", &mut Reference, seed, count)?;
-    try_faults("library", &mut Library, seed, count)?;
-    println!("selftest passed: {} faults found, each in both", FAULTS.len());
+    let in_second = try_faults("second", &mut Reference, seed, count)?;
+    let in_library = try_faults("library", &mut Library, seed, count)?;
+    println!("{} faults found, {in_library} of them in the library", in_second + in_library);
     Ok(())
 }
 
-fn try_faults(name: &str, right: &mut dyn Product, seed: u64, count: u64) -> Result<(), String> {
+/// Answers how many faults were found.
+fn try_faults(name: &str, right: &mut dyn Product, seed: u64, count: u64) -> Result<usize, String> {
     let directory =
         Path::new(concat!(env!("CARGO_MANIFEST_DIR"), "/../target/selftest")).join(name);
     run(Fault::None, right, seed, count, &directory.join("None"))?;
+    let mut found = 0;
     for fault in FAULTS {
         let cases = directory.join(format!("{fault:?}"));
         let _ = std::fs::remove_dir_all(&cases);
@@ -30,8 +29,9 @@ fn try_faults(name: &str, right: &mut dyn Product, seed: u64, count: u64) -> Res
         // Once more with no random query at all: the kept file must show it.
         run(fault, right, seed, 0, &cases)?;
         println!("{fault:?}: found, shrunk to at most {largest} bytes, kept and found again\n");
+        found += 1;
     }
-    Ok(())
+    Ok(found)
 }
 
 /// Runs a faulty copy; the answer is the largest shrunk query's length.
@@ -49,7 +49,7 @@ fn run(
         return Err(format!("{fault:?}: {} differences found", found.len()));
     }
     let largest = found.iter().map(|difference| difference.request.query.len()).max().unwrap_or(0);
-    if largest > SMALL {
+    if largest > fault.small() {
         return Err(format!("{fault:?}: shrunk only to {largest} bytes"));
     }
     Ok(largest)

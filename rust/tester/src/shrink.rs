@@ -1,7 +1,7 @@
 //! Makes a request on which the answers differ smaller, while they differ:
 //! drops fields, lessens numbers, cuts bytes.
 
-use crate::compare::{differences, Difference};
+use crate::compare::{compare, Comparison};
 use crate::drop_fields::{without, Orphans};
 use crate::product::Product;
 use crate::request::{Question, Request};
@@ -14,11 +14,12 @@ const MOST_TRIES: usize = 20_000;
 /// How many candidates are asked about at once.
 const BATCH: usize = 32;
 
-/// Queries longer than this are not shrunk byte by byte.
+/// Queries longer than this are not shrunk byte by byte, nor are their
+/// numbers lessened: it would take long, and they would be hardly plainer.
 const LONG: usize = 200;
 
 /// The smallest difference found from this one by shrinking it.
-pub fn shrink(product: &mut dyn Product, mut difference: Difference) -> Difference {
+pub fn shrink(product: &mut dyn Product, mut difference: Comparison) -> Comparison {
     let mut shrinker = Shrinker { product, tries: 0 };
     let mut before = None;
     while before != Some(weight(&difference.request)) {
@@ -40,7 +41,7 @@ struct Shrinker<'a> {
 
 impl Shrinker<'_> {
     /// Drops half the fields while it can, then a quarter, down to one.
-    fn drop_runs(&mut self, mut difference: Difference) -> Difference {
+    fn drop_runs(&mut self, mut difference: Comparison) -> Comparison {
         let mut length = decode(&difference.request.query).0.len();
         while length > 0 {
             match self.first(without_runs(&difference.request, length), &difference) {
@@ -53,14 +54,15 @@ impl Shrinker<'_> {
 
     /// The first candidate that shows a difference. A candidate must have a
     /// lesser weight, so that shrinking ends.
-    fn first(&mut self, mut candidates: Vec<Request>, than: &Difference) -> Option<Difference> {
+    fn first(&mut self, mut candidates: Vec<Request>, than: &Comparison) -> Option<Comparison> {
         candidates.retain(|candidate| weight(candidate) < weight(&than.request));
         for batch in candidates.chunks(BATCH) {
             if self.tries >= MOST_TRIES {
                 return None;
             }
             self.tries += batch.len();
-            if let Some(difference) = differences(self.product, batch).into_iter().next() {
+            let mut comparisons = compare(self.product, batch).into_iter();
+            if let Some(difference) = comparisons.find(Comparison::differs) {
                 return Some(difference);
             }
         }
@@ -111,6 +113,9 @@ fn without_runs(request: &Request, length: usize) -> Vec<Request> {
 
 /// Each field in turn with one of its numbers less: 0, half, or one less.
 fn lessened(request: &Request) -> Vec<Request> {
+    if request.query.len() > LONG {
+        return Vec::new();
+    }
     let (fields, rest) = decode(&request.query);
     let mut queries = Vec::new();
     for (place, field) in fields.iter().enumerate() {

@@ -1,27 +1,31 @@
-//! What a run has covered: how often each verdict and refusal was expected,
-//! and the largest answers seen.
+//! What a run has compared: how many answers to how many queries, how often
+//! each verdict and refusal was expected, and the largest answers seen.
 
-use crate::request::{Question, Request};
+use crate::compare::Comparison;
+use crate::request::Question;
 use second::Checked;
 use std::collections::BTreeMap;
 use std::fmt;
 
 #[derive(Default)]
 pub struct Summary {
-    requests: usize,
-    queries: usize,
+    answers: usize,
+    /// A query is compared where the verdict's lines on it are.
+    pub queries: usize,
     outcomes: BTreeMap<String, usize>,
     consistent_pairs: usize,
     conflict_pairs: usize,
     literals: usize,
     lemma_bytes: usize,
     numbers: usize,
+    cells: usize,
 }
 
 impl Summary {
-    /// Counts a request with its expected answer.
-    pub fn add(&mut self, request: &Request, expected: &str) {
-        self.requests += 1;
+    /// Counts a comparison that was made.
+    pub fn add(&mut self, comparison: &Comparison) {
+        let Comparison { request, expected, .. } = comparison;
+        self.answers += 1;
         let first = expected.lines().next().unwrap_or("");
         let words: Vec<&str> = first.split(' ').collect();
         match (request.question, &words[..]) {
@@ -49,6 +53,7 @@ impl Summary {
             Checked::Refused(_) => {}
             Checked::Consistent { pairs } => {
                 self.consistent_pairs = self.consistent_pairs.max(pairs);
+                self.cells = self.cells.max(cells_of_one_array(expected));
             }
             Checked::Conflict { pairs, lemma } => {
                 self.conflict_pairs = self.conflict_pairs.max(pairs);
@@ -59,21 +64,29 @@ impl Summary {
     }
 }
 
+/// How many of the lines after the first are about one array, at most.
+pub fn cells_of_one_array(lines: &str) -> usize {
+    let arrays: Vec<&str> =
+        lines.lines().skip(1).filter_map(|line| line.split(' ').next()).collect();
+    arrays.chunk_by(|one, next| one == next).map(<[_]>::len).max().unwrap_or(0)
+}
+
 impl fmt::Display for Summary {
     fn fmt(&self, out: &mut fmt::Formatter) -> fmt::Result {
-        writeln!(out, "{} queries, {} requests", self.queries, self.requests)?;
+        writeln!(out, "{} queries, {} answers", self.queries, self.answers)?;
         for (outcome, count) in &self.outcomes {
             writeln!(out, "  {outcome:<12} {count}")?;
         }
         writeln!(
             out,
             "  most pairs: {} consistent, {} in conflict; longest lemma: {} literals, {} bytes; \
-             longest run: {} numbers",
+             longest run: {} numbers; most cells of one array: {}",
             self.consistent_pairs,
             self.conflict_pairs,
             self.literals,
             self.lemma_bytes,
-            self.numbers
+            self.numbers,
+            self.cells
         )
     }
 }

@@ -16,9 +16,9 @@ fn shows_no_difference_and_every_bound(name: &str, product: &[&str]) {
     let output = run(name, &[&["--seed", "3", "--count", "200"], product].concat());
     let text = String::from_utf8_lossy(&output.stdout);
     assert!(output.status.success(), "{text}");
-    assert!(text.contains("no difference"), "{text}");
+    assert!(text.ends_with("\n200 queries compared, no difference\n"), "{text}");
     let bounds = "14496 consistent, 14496 in conflict; longest lemma: 49 literals, 343 bytes; \
-                  longest run: 12625 numbers";
+                  longest run: 12625 numbers; most cells of one array: 256";
     assert!(text.contains(bounds), "{text}");
     for number in 1..=12 {
         assert!(text.contains(&format!("refused {number:>2} ")), "{number}: {text}");
@@ -41,6 +41,14 @@ fn the_exhaustive_run_counts_its_queries() {
     let text = String::from_utf8_lossy(&output.stdout);
     assert!(output.status.success(), "{text}");
     assert!(text.starts_with("all 1265 queries of at most 4 fields, 16 in conflict"), "{text}");
+    assert!(text.ends_with(" calls compared\n2915 queries compared, no difference\n"), "{text}");
+}
+
+#[test]
+fn a_run_that_compares_nothing_fails() {
+    let output = run("empty", &["--count", "0", "--library"]);
+    assert!(!output.status.success());
+    assert!(String::from_utf8_lossy(&output.stderr).contains("nothing was compared"));
 }
 
 #[test]
