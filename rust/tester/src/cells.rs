@@ -110,7 +110,6 @@ fn disturb(random: &mut Random, builder: &mut Builder) {
 #[cfg(test)]
 mod tests {
     use super::*;
-    use crate::library::index_values;
     use crate::summary::cells_of_one_array;
     use judge::field::decode;
     use second::verdict_lines;
@@ -128,12 +127,14 @@ mod tests {
     }
 
     #[test]
-    fn those_in_conflict_have_many_index_values() {
+    fn those_in_conflict_have_many_but_for_the_last_read() {
         for seed in 0..200 {
             let query = many_cells(&mut Random::new(seed), true);
             let lines = verdict_lines(&query);
             assert!(lines.starts_with("conflict"), "{lines}");
-            assert!(index_values(&decode(&query).0).len() > MANY, "seed {seed}");
+            let (fields, _) = decode(&query);
+            let lines = verdict_lines(&encode(&fields[..fields.len() - 1]));
+            assert!(cells_of_one_array(&lines) > MANY, "seed {seed}: {lines}");
         }
     }
 
