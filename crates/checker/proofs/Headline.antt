@@ -32,7 +32,7 @@ use Rattle.checker.specs.declared.Looked.the-variants.{Refused as NotLoo
 use Rattle.checker.specs.declared.Written.{Written}
 use Rattle.checker.specs.declared.Written.the-variants.{Refused as NotWritten, Clauses}
 use Rattle.checker.specs.Reports.{reportOf, reported, lookReportOf, writeReportOf, writeReported, CheckAllows, LookAllows, WriteAllows}
-use Rattle.checker.proofs.Told.{checkedBy, checkTold, check-told, lookTold, look-told, writtenBy, writeTold, write-told, check-front, check-rest, write-front, write-rest}
+use Rattle.checker.proofs.Told.{checkedBy, checkTold, check-told, lookTold, look-told, writtenBy, writeTold, write-told, front, rest, check-over, write-over}
 
 -- "two results allowed by it are equal", with their buffers
 pub check-settled : (bytes before after other-after : List ℕ) (r other : Checked) → CheckAllows bytes before after r → CheckAllows bytes before other-after other
@@ -62,7 +62,7 @@ module _ (bytes : List ℕ) (refusal at : ℕ) (loaded : load 32 bytes ≡ Loade
 -- A call changes the first bytes of the buffer, or numbers of the run, as many as it reports: a refused call and a consistent check none.
 pub check-rest-stays : (bytes before after : List ℕ) (r : Checked) → CheckAllows bytes before after r
     → drop (reportOf r .length) after ≡ drop (reportOf r .length) before
-check-rest-stays bytes before after r allowed = check-rest allowed
+check-rest-stays bytes before after r allowed = rest (check-over allowed)
 
 pub check-refused-untouched : (bytes before after : List ℕ) (refusal : Refusal) → CheckAllows bytes before after (Refused refusal) → after ≡ before
 check-refused-untouched bytes before after refusal allowed = check-rest-stays bytes before after (Refused refusal) allowed
@@ -72,7 +72,7 @@ consistent-untouched bytes before after pairs allowed = check-rest-stays bytes b
 
 pub clauses-rest-stay : (bytes : List ℕ) (before after : List ℤ) (r : Written) → WriteAllows bytes before after r
     → drop (writeReportOf r .count) after ≡ drop (writeReportOf r .count) before
-clauses-rest-stay bytes before after r allowed = write-rest allowed
+clauses-rest-stay bytes before after r allowed = rest (write-over allowed)
 
 pub clauses-refused-untouched : (bytes : List ℕ) (before after : List ℤ) (refusal : Refusal) → WriteAllows bytes before after (NotWritten refusal) → after ≡ before
 clauses-refused-untouched bytes before after refusal allowed = clauses-rest-stay bytes before after (NotWritten refusal) allowed
@@ -137,7 +137,7 @@ module _ (bytes : List ℕ) (query : Query) (are-bytes : AreBytes bytes) (loaded
   pub check-conflict-rules-out : (before after : List ℕ) (pairs long : ℕ) → CheckAllows bytes before after (Conflict pairs long)
       → Lemma 32 query (take long after)
   check-conflict-rules-out before after pairs long allowed =
-      subst (Lemma 32 query) (sym (check-front allowed))
+      subst (Lemma 32 query) (sym (front (check-over allowed)))
       (Demands.conflict-rules-out 32 bytes query are-bytes loaded (length before) (sym (ap (λ report. report .verdict) (allowed .report))))
 
   -- On a consistent query, what `lookup` answers over all arrays and indices is the memories of an interpretation.
@@ -168,6 +168,6 @@ module _ (bytes : List ℕ) (query : Query) (are-bytes : AreBytes bytes) (loaded
       → (run-before run-after : List ℤ) (totals : Totals) → WriteAllows bytes run-before run-after (Clauses totals)
       → Clausal 32 query (take long after) (take (totals .count) run-after) (totals .variables) (totals .clauses)
   clauses-say before after pairs long checked run-before run-after totals allowed =
-      rw (check-front checked, write-front allowed, ap (λ report. report .variables) (allowed .report), ap (λ report. report .clauses) (allowed .report))
+      rw (front (check-over checked), front (write-over allowed), ap (λ report. report .variables) (allowed .report), ap (λ report. report .clauses) (allowed .report))
       (Demands.clauses-exactly 32 bytes query are-bytes loaded (length before) (sym (ap (λ report. report .verdict) (checked .report))) (length run-before)
       (sym (ap (λ report. report .refusal) (allowed .report))))

@@ -45,16 +45,22 @@ pub written-told : (r : Written) → r ≡ writtenBy (writeReportOf r .refused) 
 written-told (NotWritten refusal) = refl
 written-told (Clauses totals) = refl
 
--- What was written over a buffer stands first in it, and the rest stays
-pub front : {A : Type 0} (before after written : List A) (long : ℕ) → long ≡ length written → after ≡ writtenOver before written → take long after ≡ written
-front before after written long is over = ap (take long) over ∙ take-at written (drop (length written) before) long (sym is)
+-- The first so many elements of a buffer are written over: they stand first in it, and the rest stays
+pub record Over {A : Type 0} (before after written : List A) (long : ℕ) : Type 0 where
+  pub long-is : long ≡ length written
+  pub after-is : after ≡ writtenOver before written
 
-pub rest : {A : Type 0} (before after written : List A) (long : ℕ) → long ≡ length written → after ≡ writtenOver before written
-    → drop long after ≡ drop long before
-rest before after written long is over =
-    ap (drop long) over ∙ drop-at written (drop (length written) before) long (sym is) ∙ ap (λ (n : ℕ). drop n before) (sym is)
+module _ {A : Type 0} {before after written : List A} {long : ℕ} (over : Over before after written long) where
+  pub front : take long after ≡ written
+  front = ap (take long) (over .after-is) ∙ take-at written (drop (length written) before) long (sym (over .long-is))
 
--- A contract allows the answer that the paper's answer tells, and no other; and what the paper's answer writes stands first in the buffer
+  pub rest : drop long after ≡ drop long before
+  rest =
+      ap (drop long) (over .after-is)
+      ∙ drop-at written (drop (length written) before) long (sym (over .long-is))
+      ∙ ap (λ (n : ℕ). drop n before) (sym (over .long-is))
+
+-- A contract allows the answer that the paper's answer tells, and no other; and what the paper's answer writes is written over the buffer
 abbrev pub checkTold : Paper.Checked → Checked
 checkTold answer = checkedBy (answer .verdict) (reported answer)
 
@@ -62,11 +68,8 @@ module _ {answer : Paper.Checked} {before after : List ℕ} {r : Checked} (allow
   pub check-told : r ≡ checkTold answer
   check-told = checked-told r ∙ ap (λ report. checkedBy (report .verdict) report) (allowed .report)
 
-  pub check-front : take (reportOf r .length) after ≡ answer .written
-  check-front = front before after (answer .written) (reportOf r .length) (ap (λ report. report .length) (allowed .report)) (allowed .buffer)
-
-  pub check-rest : drop (reportOf r .length) after ≡ drop (reportOf r .length) before
-  check-rest = rest before after (answer .written) (reportOf r .length) (ap (λ report. report .length) (allowed .report)) (allowed .buffer)
+  pub check-over : Over before after (answer .written) (reportOf r .length)
+  check-over = record { long-is = ap (λ report. report .length) (allowed .report); after-is = allowed .buffer }
 
 abbrev pub lookTold : Paper.Looked → Looked
 lookTold answer = lookedBy (not (eqb (answer .refusal) 0)) (lookReported answer)
@@ -81,8 +84,5 @@ module _ {answer : Paper.Written} {before after : List ℤ} {r : Written} (allow
   pub write-told : r ≡ writeTold answer
   write-told = written-told r ∙ ap (λ report. writtenBy (report .refused) report) (allowed .report)
 
-  pub write-front : take (writeReportOf r .count) after ≡ answer .written
-  write-front = front before after (answer .written) (writeReportOf r .count) (ap (λ report. report .count) (allowed .report)) (allowed .run)
-
-  pub write-rest : drop (writeReportOf r .count) after ≡ drop (writeReportOf r .count) before
-  write-rest = rest before after (answer .written) (writeReportOf r .count) (ap (λ report. report .count) (allowed .report)) (allowed .run)
+  pub write-over : Over before after (answer .written) (writeReportOf r .count)
+  write-over = record { long-is = ap (λ report. report .count) (allowed .report); after-is = allowed .run }

@@ -24,8 +24,9 @@ use Rattle.meaning.proofs.Demands as Demands
 use Rattle.meaning.proofs.Demands.{Lemma, Clausal}
 use Rattle.meaning.proofs.Answered as Answered
 use Rattle.checker.specs.Reports.{reported, lookReported, writeReported}
+use Rattle.checker.proofs.Told.{front, rest}
 use Rattle.zunidelo.specs.Told.{place, returned, unlessRefused, checkNumbers, lookNumbers, writeNumbers, CheckTells, LookTells, WriteTells}
-use Rattle.zunidelo.proofs.Tells.{returned-consistent, returned-conflict, returned-written, check-front, check-rest, write-front, write-rest}
+use Rattle.zunidelo.proofs.Tells.{returned-consistent, returned-conflict, returned-written, check-over, write-over}
 
 -- "two results allowed by it are equal", with their reports and buffers
 pub check-told-settled : (bytes before after other-after report other-report : List ℕ) (r other : ℕ) → CheckTells bytes before after report r
@@ -65,7 +66,7 @@ module _ (bytes : List ℕ) (refusal at : ℕ) (loaded : load 32 bytes ≡ Loade
 -- A call changes the first elements of the lent buffer, as many as it reports; and none where it returns anything but 1.
 pub check-told-rest-stays : (bytes before after report : List ℕ) (r : ℕ) → CheckTells bytes before after report r
     → drop (place report 3) after ≡ drop (place report 3) before
-check-told-rest-stays bytes before after report r told = check-rest told
+check-told-rest-stays bytes before after report r told = rest (check-over told)
 
 pub check-told-untouched : (bytes before after report : List ℕ) (r : ℕ) → CheckTells bytes before after report r → r ≢ 1 → after ≡ before
 check-told-untouched bytes before after report r told other =
@@ -74,7 +75,7 @@ check-told-untouched bytes before after report r told other =
 
 pub write-told-rest-stays : (bytes : List ℕ) (before after : List ℤ) (report : List ℕ) (r : ℕ) → WriteTells bytes before after report r
     → drop (place report 4) after ≡ drop (place report 4) before
-write-told-rest-stays bytes before after report r told = write-rest told
+write-told-rest-stays bytes before after report r told = rest (write-over told)
 
 pub write-told-untouched : (bytes : List ℕ) (before after : List ℤ) (report : List ℕ) (r : ℕ) → WriteTells bytes before after report r → r ≢ 1 → after ≡ before
 write-told-untouched bytes before after report r told other =
@@ -143,7 +144,7 @@ module _ (bytes : List ℕ) (query : Query) (are-bytes : AreBytes bytes) (loaded
   -- Where 1 is returned, what is read off the first report[3] bytes is a lemma that holds in every interpretation and is false under the guess.
   pub one-rules-out : (before after report : List ℕ) (r : ℕ) → CheckTells bytes before after report r → r ≡ 1 → Lemma 32 query (take (place report 3) after)
   one-rules-out before after report r told one =
-      subst (Lemma 32 query) (sym (check-front told))
+      subst (Lemma 32 query) (sym (front (check-over told)))
       (Demands.conflict-rules-out 32 bytes query are-bytes loaded (length before) (returned-conflict _ (sym (told .returns) ∙ one)))
 
   -- On a consistent query report[2] of `zunidelo_lookup`, over all arrays and indices, is the memories of an interpretation; and 0 is returned.
@@ -167,6 +168,6 @@ module _ (bytes : List ℕ) (query : Query) (are-bytes : AreBytes bytes) (loaded
       → (run-before run-after : List ℤ) (run-report : List ℕ) (run-r : ℕ) → WriteTells bytes run-before run-after run-report run-r → run-r ≡ 1
       → Clausal 32 query (take (place report 3) after) (take (place run-report 4) run-after) (place run-report 2) (place run-report 3)
   one-says before after report r checked one run-before run-after run-report run-r told run-one =
-      rw (check-front checked, write-front told, ap (λ numbers. place numbers 2) (told .reports), ap (λ numbers. place numbers 3) (told .reports))
+      rw (front (check-over checked), front (write-over told), ap (λ numbers. place numbers 2) (told .reports), ap (λ numbers. place numbers 3) (told .reports))
       (Demands.clauses-exactly 32 bytes query are-bytes loaded (length before) (returned-conflict _ (sym (checked .returns) ∙ one)) (length run-before)
       (returned-written _ (sym (told .returns) ∙ run-one)))

@@ -9,14 +9,13 @@ use mathlib.Core.List.{List}
 use borrow.Author.Tests.{eqb-true}
 use lib.Dec.{eqb}
 use lib.IntN.{ℤ}
-use lib.ListN.{take, drop}
 use Rattle.paper.specs.Answers.{Verdict}
 use Rattle.paper.specs.Answers as Paper
 use Rattle.checker.specs.declared.Checked.{Checked}
 use Rattle.checker.specs.declared.Looked.{Looked}
 use Rattle.checker.specs.declared.Written.{Written}
 use Rattle.checker.specs.Reports.{reportOf, CheckedAs, lookReportOf, lookReported, writeReportOf, WrittenAs}
-use Rattle.checker.proofs.Told.{front, rest}
+use Rattle.checker.proofs.Told.{Over}
 use Rattle.zunidelo.specs.Told.{place, returned, unlessRefused, checkNumbers, lookNumbers, writeNumbers, CheckTold, LookTold, WriteTold}
 
 -- an answer r that is the case `one` of its enum
@@ -64,17 +63,11 @@ returned-written refusal = go (eqb refusal 0) refl
     go true e is = eqb-true refusal 0 e
     go false e is = absurd (omega (arith, is))
 
--- what the paper's answer writes stands first in the buffer, as many elements as are reported; the rest stays
-module _ {answer : Paper.Checked} {before after report : List ℕ} {r : ℕ} (told : CheckTold answer before after report r) where
-  pub check-front : take (place report 3) after ≡ answer .written
-  check-front = front before after (answer .written) (place report 3) (ap (λ numbers. place numbers 3) (told .reports)) (told .buffer)
+-- what the paper's answer writes is written over the buffer, as many elements as are reported
+pub check-over : {answer : Paper.Checked} {before after report : List ℕ} {r : ℕ} → CheckTold answer before after report r
+    → Over before after (answer .written) (place report 3)
+check-over told = record { long-is = ap (λ numbers. place numbers 3) (told .reports); after-is = told .buffer }
 
-  pub check-rest : drop (place report 3) after ≡ drop (place report 3) before
-  check-rest = rest before after (answer .written) (place report 3) (ap (λ numbers. place numbers 3) (told .reports)) (told .buffer)
-
-module _ {answer : Paper.Written} {before after : List ℤ} {report : List ℕ} {r : ℕ} (told : WriteTold answer before after report r) where
-  pub write-front : take (place report 4) after ≡ answer .written
-  write-front = front before after (answer .written) (place report 4) (ap (λ numbers. place numbers 4) (told .reports)) (told .buffer)
-
-  pub write-rest : drop (place report 4) after ≡ drop (place report 4) before
-  write-rest = rest before after (answer .written) (place report 4) (ap (λ numbers. place numbers 4) (told .reports)) (told .buffer)
+pub write-over : {answer : Paper.Written} {before after : List ℤ} {report : List ℕ} {r : ℕ} → WriteTold answer before after report r
+    → Over before after (answer .written) (place report 4)
+write-over told = record { long-is = ap (λ numbers. place numbers 4) (told .reports); after-is = told .buffer }
