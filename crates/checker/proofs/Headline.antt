@@ -19,7 +19,9 @@ use Rattle.paper.specs.Load.{Loaded, load}
 use Rattle.paper.specs.Answers.{check, look, writeClauses}
 use Rattle.meaning.proofs.Built.{AreBytes}
 use Rattle.meaning.proofs.Whole.{guessOf, pairsOf}
+use Rattle.meaning.proofs.Accepted.{accepted}
 use Rattle.meaning.proofs.Called.{look-none}
+use Rattle.meaning.proofs.Verdict.{fits-none}
 use Rattle.meaning.proofs.Demands as Demands
 use Rattle.meaning.proofs.Demands.{Lemma, Clausal}
 use Rattle.meaning.proofs.Answered as Answered
@@ -152,7 +154,7 @@ module _ (bytes : List ℕ) (query : Query) (are-bytes : AreBytes bytes) (loaded
   pub lookup-answers : Paper.Consistent 32 query → (a x : ℕ) → a < given array (query .terms) → x < 2 ^ 32 → (r : Looked) → LookAllows bytes a x r
       → (value : ℕ) × (r ≡ Value value)
   lookup-answers consistent a x a-in x-in r allowed =
-      (_, look-told (look 32 bytes a x) allowed ∙ ap lookTold (look-none 32 bytes query loaded a x (Answered.fits-none 32 bytes query are-bytes loaded consistent) a-in x-in))
+      (_, look-told (look 32 bytes a x) allowed ∙ ap lookTold (look-none 32 bytes query loaded a x (fits-none (accepted 32 bytes query are-bytes loaded) consistent) a-in x-in))
 
   pub lookup-nowhere : Paper.Consistent 32 query → (a x : ℕ) → (given array (query .terms) ≤ a) ⊎ (2 ^ 32 ≤ x) → (r : Looked) → LookAllows bytes a x r
       → r ≡ NotLooked (record { number = 11; offset = 0 })

@@ -27,7 +27,7 @@ use Rattle.meaning.proofs.Called.{check-none, check-some, inConflict, w
 use Rattle.meaning.proofs.Sources.{arrays-bound}
 use Rattle.meaning.proofs.Memories.{interprets-same}
 use Rattle.meaning.proofs.Refusals.{refusals}
-use Rattle.meaning.proofs.Verdict.{numbered, conflict-refutes, model-fits}
+use Rattle.meaning.proofs.Verdict.{numbered, fits-none, unfit-some}
 use Rattle.meaning.proofs.Demands.{bounded, refused-alike, consistent-exactly, lookup-interprets}
 
 -- an answer by room: with a large one it is there, so with any other it is the same or refused, by its length
@@ -52,24 +52,6 @@ either-way true n = refl
 either-way false n = refl
 
 module _ (w : ℕ) (bytes : List ℕ) (query : Query) (are-bytes : AreBytes bytes) (loaded : load w bytes ≡ Loaded.accepted query) where
-  -- some memories fit exactly if there is no pair
-  pub fits-none : Consistent w query → pairOf query ≡ none
-  fits-none consistent = go (pairOf query) refl
-    where
-      go : (found : Option Pair) → pairOf query ≡ found → found ≡ none
-      go none is = refl
-      go (some pair) is = absurd (conflict-refutes (accepted w bytes query are-bytes loaded) pair is consistent)
-
-  pub unfit-some : (Consistent w query → ⊥) → (pair : Pair) × (pairOf query ≡ some pair)
-  unfit-some unfit = go (pairOf query) refl
-    where
-      go : (found : Option Pair) → pairOf query ≡ found → (pair : Pair) × (pairOf query ≡ some pair)
-      go none quiet =
-          absurd
-          (unfit
-          (guessOf query, _, model-fits (accepted w bytes query are-bytes loaded) quiet, record { values = λ b here. refl; truths = λ m here. refl }))
-      go (some pair) is = (pair, is)
-
   -- values that are those of all lookups, at numbers that fit 64 bits, are the memories of an interpretation
   pub lookups-interpret : Consistent w query → w ≤ 64 → (values : (a x : ℕ) → ℕ)
       → ((a x : ℕ) → a < 2 ^ 64 → x < 2 ^ 64 → values a x ≡ look w bytes a x .value) → Interpretation w (query .terms) (guessOf query) values
@@ -113,17 +95,17 @@ module _ (w : ℕ) (bytes : List ℕ) (query : Query) (are-bytes : AreBytes byte
   -- "12: lookup on a query in conflict; clauses for a consistent query"
   pub look-unfit : (Consistent w query → ⊥) → (a x : ℕ) → look w bytes a x ≡ lookRefused 12 0
   unfolding look
-  look-unfit unfit a x = let (pair, found) = unfit-some unfit in rw (loaded, found)
+  look-unfit unfit a x = let (pair, found) = unfit-some (accepted w bytes query are-bytes loaded) unfit in rw (loaded, found)
 
   pub clauses-fit : Consistent w query → (room : ℕ) → writeClauses w bytes room ≡ writeRefused 12 0
-  clauses-fit consistent room = write-none w bytes query loaded room (fits-none consistent)
+  clauses-fit consistent room = write-none w bytes query loaded room (fits-none (accepted w bytes query are-bytes loaded) consistent)
 
   -- "11: .. the array number isn't in the query", and no memory has an index of 2^w or more
   pub look-nowhere : Consistent w query → (a x : ℕ) → (given array (query .terms) ≤ a) ⊎ (2 ^ w ≤ x) → look w bytes a x ≡ lookRefused 11 0
   unfolding look
-  look-nowhere consistent a x (inl no-array) = rw (loaded, fits-none consistent, le-leb (given array (query .terms)) a no-array)
+  look-nowhere consistent a x (inl no-array) = rw (loaded, fits-none (accepted w bytes query are-bytes loaded) consistent, le-leb (given array (query .terms)) a no-array)
   look-nowhere consistent a x (inr no-index) =
-      rw (loaded, fits-none consistent, le-leb (2 ^ w) x no-index, either-way (leb (given array (query .terms)) a) 11)
+      rw (loaded, fits-none (accepted w bytes query are-bytes loaded) consistent, le-leb (2 ^ w) x no-index, either-way (leb (given array (query .terms)) a) 11)
 
 -- with any two rooms for the clauses, of which one holds 12,625 numbers
 pub clauses-by-room : (bytes : List ℕ) (query : Query) → AreBytes bytes → load 32 bytes ≡ Loaded.accepted query → (room large : ℕ) → 12625 ≤ large
@@ -144,7 +126,7 @@ clauses-by-room bytes query are-bytes loaded room large fits = go (pairOf query)
 pub clauses-answered : (bytes : List ℕ) (query : Query) → AreBytes bytes → load 32 bytes ≡ Loaded.accepted query → (Consistent 32 query → ⊥)
     → (room : ℕ) → 12625 ≤ room → writeClauses 32 bytes room .refusal ≡ 0
 clauses-answered bytes query are-bytes loaded unfit room fits =
-    let (pair, found) = unfit-some 32 bytes query are-bytes loaded unfit in
+    let (pair, found) = unfit-some (accepted 32 bytes query are-bytes loaded) unfit in
     by pair found (write-some 32 bytes query loaded room pair found)
   where
     by : (pair : Pair) (found : pairOf query ≡ some pair)

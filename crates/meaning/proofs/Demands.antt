@@ -24,7 +24,7 @@ use Rattle.meaning.proofs.Accepted.{Accepted, accepted}
 use Rattle.meaning.proofs.Whole.{guessOf, pairOf, pairsOf, lemmaOf, modelOf}
 use Rattle.meaning.proofs.Memories.{interprets-same}
 use Rattle.meaning.proofs.Called.{check-none, check-some, inConflict, look-none, write-none, write-some, clausesAre, written}
-use Rattle.meaning.proofs.Verdict.{numbered, model-fits, lemma-sound, lemma-false, lemma-names, conflict-refutes, literals-most}
+use Rattle.meaning.proofs.Verdict.{numbered, model-fits, lemma-sound, lemma-false, lemma-names, conflict-refutes, fits-none, none-fits, literals-most}
 use Rattle.meaning.proofs.Clauses.{clauses-say-lemma}
 use Rattle.meaning.proofs.Variables.{Names, clauses-name}
 use Rattle.meaning.proofs.Reading.{lemma-read, clauses-read}
@@ -98,18 +98,14 @@ module _ (w : ℕ) (bytes : List ℕ) (query : Query) (are-bytes : AreBytes byte
 
       go : (found : Option Pair) → pairOf query ≡ found → (check w bytes room .verdict ≡ Verdict.consistent) ↔ Consistent w query
       go none quiet = (
-        (λ e. (guessOf query, modelOf query, model-fits ok quiet, record { values = λ b here. refl; truths = λ m here. refl })),
+        (λ e. none-fits ok quiet),
         λ some-fit. ap (λ (one : Checked). one .verdict) (check-none w bytes query loaded room quiet),
       )
       go (some pair) found = ((λ e. absurd (never pair found e)), λ some-fit. absurd (conflict-refutes ok pair found some-fit))
 
   -- the pair, where the verdict says so
   quiet : (room : ℕ) → check w bytes room .verdict ≡ Verdict.consistent → pairOf query ≡ none
-  quiet room e = go (pairOf query) refl
-    where
-      go : (found : Option Pair) → pairOf query ≡ found → found ≡ none
-      go none is = refl
-      go (some pair) is = absurd (conflict-refutes ok pair is (consistent-exactly room .0 e))
+  quiet room e = fits-none ok (consistent-exactly room .0 e)
 
   pub lookup-interprets : (room : ℕ) → check w bytes room .verdict ≡ Verdict.consistent → Interpretation w (query .terms) (guessOf query) (λ a x. look w bytes a x .value)
   lookup-interprets room e =

@@ -1,10 +1,10 @@
 -- Demand 2 of an accepted query: with no conflicting pair the model has its guess; with one, the lemma holds everywhere and fails there.
 -- Assumes nothing.
 use Prim.Native.Nat.{ℕ, _≤_}
-use mathlib.Core.Path.{_≡_, sym, _∙_}
+use mathlib.Core.Path.{_≡_, refl, sym, _∙_}
 use mathlib.Core.Bool.{true, false, false≢true}
 use mathlib.Core.List.{List}
-use mathlib.Core.Option.{none, some}
+use mathlib.Core.Option.{Option, none, some}
 use lib.ListN.{length}
 use Rattle.paper.specs.Lists.{_∈_}
 use Rattle.paper.specs.Fields.{base, boolean}
@@ -68,3 +68,21 @@ module _ {w : ℕ} {query : Query} (ok : Accepted w query) where
         literals-bound (query .terms) (guessOf query) pair
         (path-is (query .terms) numbered (guessOf query) pair pair-taken .short)
         (arrays-bound ok)
+
+  -- So there is no pair exactly if some memories fit
+  pub fits-none : Consistent w query → pairOf query ≡ none
+  fits-none consistent = go (pairOf query) refl
+    where
+      go : (found : Option Pair) → pairOf query ≡ found → found ≡ none
+      go none is = refl
+      go (some pair) is = absurd (conflict-refutes pair is consistent)
+
+  pub none-fits : pairOf query ≡ none → Consistent w query
+  none-fits quiet = (guessOf query, modelOf query, model-fits quiet, record { values = λ b here. refl; truths = λ m here. refl })
+
+  pub unfit-some : (Consistent w query → ⊥) → (pair : Pair) × (pairOf query ≡ some pair)
+  unfit-some unfit = go (pairOf query) refl
+    where
+      go : (found : Option Pair) → pairOf query ≡ found → (pair : Pair) × (pairOf query ≡ some pair)
+      go none quiet = absurd (unfit (none-fits quiet))
+      go (some pair) is = (pair, is)

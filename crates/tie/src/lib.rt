@@ -1,6 +1,8 @@
 // The contracts, tied to the theorems: each function here calls one public or exported function, asks nothing of its caller, and ensures the
 // very words that the headline theorems are about. A `requires` that stood on one of them, or a contract that said less, would leave this
 // crate unproved. It holds nothing to call.
+ghost use mathlib.Core.Path.{_≡_};
+ghost use lib.ListN.{length};
 ghost use Rattle.meaning.proofs.Built.{AreBytes};
 ghost use Rattle.checker.specs.Reports.{CheckAllows, LookAllows, WriteAllows};
 ghost use Rattle.checker.specs.Judged.{ExaminedFrom};
@@ -10,15 +12,17 @@ use checker::Examined;
 use checker::Looked;
 use checker::Written;
 
-fn length(query: &[u8]) -> usize {
+fn many(query: &[u8]) -> usize
+    ensures { λ r. ⌜ r ≡ length (now (query .entry)) ⌝ }
+{
     query.len()
 }
 
-// What the theorems suppose of a query holds of every slice that is lent: its elements are bytes.
+// What the theorems suppose of a query holds of every slice that is lent: its elements are bytes. Answers how many.
 pub fn lent_bytes(query: &[u8]) -> usize
-    ensures { λ r. ⌜ AreBytes (now (query .entry)) ⌝ }
+    ensures { λ r. ⌜ AreBytes (now (query .entry)) × (r ≡ length (now (query .entry))) ⌝ }
 {
-    length(query)
+    many(query)
 }
 
 pub fn allowed_check(query: &[u8], answer: &mut [u8]) -> Checked

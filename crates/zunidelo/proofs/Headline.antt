@@ -16,17 +16,19 @@ use Rattle.paper.specs.Terms.{given, Query}
 use Rattle.paper.specs.Interpretations.{Interpretation}
 use Rattle.paper.specs.Interpretations as Paper
 use Rattle.paper.specs.Load.{Loaded, load}
-use Rattle.paper.specs.Answers.{Verdict, writtenOver}
+use Rattle.paper.specs.Answers.{Verdict, checkRefused, writeRefused, writtenOver}
 use Rattle.meaning.proofs.Built.{AreBytes}
 use Rattle.meaning.proofs.Whole.{guessOf, pairsOf}
+use Rattle.meaning.proofs.Accepted.{accepted}
 use Rattle.meaning.proofs.Called.{look-none}
+use Rattle.meaning.proofs.Verdict.{fits-none}
 use Rattle.meaning.proofs.Demands as Demands
 use Rattle.meaning.proofs.Demands.{Lemma, Clausal}
 use Rattle.meaning.proofs.Answered as Answered
 use Rattle.checker.specs.Reports.{reported, lookReported, writeReported}
 use Rattle.checker.proofs.Told.{front, rest}
 use Rattle.zunidelo.specs.Told.{place, returned, unlessRefused, checkNumbers, lookNumbers, writeNumbers, CheckTells, LookTells, WriteTells}
-use Rattle.zunidelo.proofs.Tells.{returned-consistent, returned-conflict, returned-written, check-over, write-over}
+use Rattle.zunidelo.proofs.Tells.{returned-consistent, returned-conflict, returned-written, check-over, write-over, told-by-room}
 
 -- "two results allowed by it are equal", with their reports and buffers
 pub check-told-settled : (bytes before after other-after report other-report : List ℕ) (r other : ℕ) → CheckTells bytes before after report r
@@ -98,14 +100,12 @@ module _ (bytes : List ℕ) (query : Query) (are-bytes : AreBytes bytes) (loaded
       → (large large-after full-report : List ℕ) (full : ℕ) → CheckTells bytes large large-after full-report full → 343 ≤ length large
       → ((length before < place full-report 3) × (r ≡ 2) × (report ≡ 10 ∷ 0 ∷ 0 ∷ 0 ∷ [])) ⊎ ((place full-report 3 ≤ length before) × (r ≡ full) × (report ≡ full-report))
   check-told-by-room before after report r told large large-after full-report full held fits =
-      let long = ap (λ numbers. place numbers 3) (held .reports) in
-      ⊎-map
-      (λ (longer, is). (rw long longer, told .returns ∙ ap (λ answer. returned (answer .verdict)) is, told .reports ∙ ap (λ answer. checkNumbers (reported answer)) is))
-      (λ (short, is). (
-        rw long short,
-        told .returns ∙ ap (λ answer. returned (answer .verdict)) is ∙ sym (held .returns),
-        told .reports ∙ ap (λ answer. checkNumbers (reported answer)) is ∙ sym (held .reports),
-      ))
+      told-by-room (λ answer. returned (answer .verdict)) (λ answer. checkNumbers (reported answer)) _ _ (checkRefused 10 0) _ _ _ r full report full-report
+      (told .returns)
+      (told .reports)
+      (held .returns)
+      (held .reports)
+      (ap (λ numbers. place numbers 3) (held .reports))
       (Answered.check-by-room 32 bytes query are-bytes loaded (length before) (length large) fits)
 
   -- With 12,625 numbers `zunidelo_clauses` returns 1 for every query in conflict.
@@ -121,18 +121,12 @@ module _ (bytes : List ℕ) (query : Query) (are-bytes : AreBytes bytes) (loaded
       → ((length before < place full-report 4) × (r ≡ 2) × (report ≡ 10 ∷ 0 ∷ 0 ∷ 0 ∷ 0 ∷ []))
       ⊎ ((place full-report 4 ≤ length before) × (r ≡ full) × (report ≡ full-report))
   write-told-by-room before after report r told large large-after full-report full held fits =
-      let long = ap (λ numbers. place numbers 4) (held .reports) in
-      ⊎-map
-      (λ (longer, is). (
-        rw long longer,
-        told .returns ∙ ap (λ answer. returned (unlessRefused (writeReported answer .refused) Verdict.inConflict)) is,
-        told .reports ∙ ap (λ answer. writeNumbers (writeReported answer)) is,
-      ))
-      (λ (short, is). (
-        rw long short,
-        told .returns ∙ ap (λ answer. returned (unlessRefused (writeReported answer .refused) Verdict.inConflict)) is ∙ sym (held .returns),
-        told .reports ∙ ap (λ answer. writeNumbers (writeReported answer)) is ∙ sym (held .reports),
-      ))
+      told-by-room (λ answer. returned (unlessRefused (writeReported answer .refused) Verdict.inConflict)) (λ answer. writeNumbers (writeReported answer)) _ _ (writeRefused 10 0) _ _ _ r full report full-report
+      (told .returns)
+      (told .reports)
+      (held .returns)
+      (held .reports)
+      (ap (λ numbers. place numbers 4) (held .reports))
       (Answered.clauses-by-room bytes query are-bytes loaded (length before) (length large) fits)
 
   -- Demand 2. 0 is returned exactly if an interpretation exists with all the assigned values and truths.
@@ -160,7 +154,7 @@ module _ (bytes : List ℕ) (query : Query) (are-bytes : AreBytes bytes) (loaded
   look-told-answers consistent a x a-in x-in report r told =
       told .returns
       ∙ ap (λ answer. returned (unlessRefused (lookReported answer .refused) Verdict.consistent))
-      (look-none 32 bytes query loaded a x (Answered.fits-none 32 bytes query are-bytes loaded consistent) a-in x-in)
+      (look-none 32 bytes query loaded a x (fits-none (accepted 32 bytes query are-bytes loaded) consistent) a-in x-in)
 
   -- Demand 3. Where both return 1, what is read off the first report[4] numbers of `zunidelo_clauses` is report[3] clauses, over the variables 1
   -- to report[2], that say exactly what is read off the bytes of `zunidelo_check`.

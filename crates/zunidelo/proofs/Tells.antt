@@ -1,9 +1,10 @@
 -- What a report of the public function's answer tells is what the paper's answer tells: an answer is the paper's, so its numbers are. And
 -- what the returned number tells.
 -- Assumes nothing.
-use Prim.Native.Nat.{ℕ}
+use Prim.Native.Nat.{ℕ, _<_, _≤_}
 use native.Mathlib.Omega.{arith}
 use mathlib.Core.Path.{_≡_, refl, sym, ap, _∙_}
+use mathlib.Core.Logic.{_⊎_, ⊎-map}
 use mathlib.Core.Bool.{Bool, true, false, not}
 use mathlib.Core.List.{List}
 use borrow.Author.Tests.{eqb-true}
@@ -71,3 +72,13 @@ check-over told = record { long-is = ap (λ numbers. place numbers 3) (told .rep
 pub write-over : {answer : Paper.Written} {before after : List ℤ} {report : List ℕ} {r : ℕ} → WriteTold answer before after report r
     → Over before after (answer .written) (place report 4)
 write-over told = record { long-is = ap (λ numbers. place numbers 4) (told .reports); after-is = told .buffer }
+
+-- an answer by room, as it is told: the answer that a large room holds, or the refusal
+pub told-by-room : {A : Type 0} (returns : A → ℕ) (reports : A → List ℕ) (one full refused : A) (room long reported r s : ℕ) (report full-report : List ℕ)
+    → r ≡ returns one → report ≡ reports one → s ≡ returns full → full-report ≡ reports full → reported ≡ long
+    → ((room < long) × (one ≡ refused)) ⊎ ((long ≤ room) × (one ≡ full))
+    → ((room < reported) × (r ≡ returns refused) × (report ≡ reports refused)) ⊎ ((reported ≤ room) × (r ≡ s) × (report ≡ full-report))
+told-by-room returns reports one full refused room long reported r s report full-report r-is report-is s-is full-is same by =
+    ⊎-map (λ (longer, is). (rw same longer, r-is ∙ ap returns is, report-is ∙ ap reports is))
+    (λ (short, is). (rw same short, r-is ∙ ap returns is ∙ sym s-is, report-is ∙ ap reports is ∙ sym full-is))
+    by

@@ -5,11 +5,11 @@ use Rattle.checker.proofs.Answers.{are-bytes}
 use Rattle.tie.proofs.lent_bytes.Statement.{statement}
 use Rattle.tie.proofs.lent_bytes.Tie as tie
 
-length-requires : tie.Need-length-requires
-length-requires c κs = search needs
+many-requires : tie.Need-many-requires
+many-requires c κs = search needs
 
 returns : tie.Need-returns
-returns c = are-bytes _ (λ i. c .before .shared-slice-known .given i .fits)
+returns c = (are-bytes _ (λ i. c .before .shared-slice-known .given i .fits), c .many .ensures)
 
 pub lent-bytes-spec : {M : Type 1} → statement M
-lent-bytes-spec = tie.close (tie.spec length-requires returns)
+lent-bytes-spec = tie.close (tie.spec many-requires returns)
