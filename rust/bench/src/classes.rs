@@ -1,9 +1,10 @@
 //! The classes of queries that are timed: three shapes at three sizes in both
-//! verdicts, and two queries in which every source reaches every array, with
-//! few index values and with one.
+//! verdicts, queries in which every source reaches every array, with few index
+//! values and with one, and queries whose lemma has as many literals as any.
 
 use judge::field::encode;
 use judge::random::Random;
+use second::MAX_ARRAYS;
 use tester::bounds::all_pairs;
 use tester::builder::Builder;
 use tester::memory::Memory;
@@ -60,6 +61,10 @@ pub fn classes() -> Vec<Class> {
     for (stored, conflict) in [(ONE_INDEX, false), (ONE_INDEX_CONFLICT, true)] {
         let query = parse_hex(stored).expect("a stored query is hex");
         classes.push(Class { name: "one index, largest".to_string(), query, conflict });
+    }
+    for conflict in [false, true] {
+        let query = most_literals(conflict);
+        classes.push(Class { name: "most literals, largest".to_string(), query, conflict });
     }
     classes
 }
@@ -120,6 +125,27 @@ fn round(shape: Shape, random: &mut Random, builder: &mut Builder, index: u16) {
     builder.read(builder.arrays.len() as u16 - 1, index);
 }
 
+/// A write for each array but the first, then reads at the writes' indices;
+/// last a read of the first array and one of the newest, right or wrong, at
+/// equal indices of different terms that nothing else is at.
+fn most_literals(conflict: bool) -> Vec<u8> {
+    let mut random = Random::new(SEED);
+    let mut builder = Builder::default();
+    let (one, other) = (builder.base(INDEX), builder.base(INDEX));
+    builder.variable(Memory::all(0));
+    let mut write_indices = Vec::new();
+    for newest in 0..MAX_ARRAYS as u16 - 1 {
+        let write_index = builder.base(2 * u32::from(newest));
+        builder.write(newest, write_index, write_index);
+        write_indices.push(write_index);
+    }
+    while builder.room_for_bases(3) {
+        builder.read(builder.any_array(&mut random), *random.pick(&write_indices));
+    }
+    builder.read(0, one);
+    finished(&builder, other, conflict)
+}
+
 /// The query so far with its last read.
 fn finished(builder: &Builder, index: u16, conflict: bool) -> Vec<u8> {
     let mut builder = builder.clone();
@@ -143,6 +169,13 @@ mod tests {
                 Checked::Refused(refusal) => panic!("{name}: {refusal:?}"),
             }
         }
+    }
+
+    #[test]
+    fn the_most_literals_fill_the_answer() {
+        let checked = check(&most_literals(true), MAX_LEMMA_BYTES);
+        let Checked::Conflict { lemma, .. } = checked else { panic!("{checked:?}") };
+        assert_eq!(lemma.len(), MAX_LEMMA_BYTES);
     }
 
     #[test]
