@@ -1,4 +1,5 @@
 # make run: the main job on known queries. make test: every proof and every test. make bench: the time of each call.
+# make bench BEFORE=path/to/libzunidelo.a: the archive of an earlier commit is timed in the same rounds, and must answer alike.
 # make soak and make confirm: as many random queries as you like, against the second program and against solvers of others.
 .PHONY: run test bench soak confirm
 
@@ -15,7 +16,7 @@ $(archive): crates.txt $(shell find crates -name '*.rt')
 	@tests/library && touch $@
 
 bench: $(archive)
-	@cd rust && cargo build --release --offline --quiet -p bench && target/release/bench
+	@cd rust && ZUNIDELO_BEFORE="$(abspath $(BEFORE))" cargo build --release --offline --quiet -p bench && target/release/bench
 
 # the product against the second program, SEEDS="5 6 7" COUNT=10000 FIELDS=7 or as asked
 soak: $(archive)

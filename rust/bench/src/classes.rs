@@ -24,6 +24,16 @@ pub struct Class {
     pub conflict: bool,
 }
 
+impl Class {
+    pub fn verdict(&self) -> &'static str {
+        if self.conflict {
+            "conflict"
+        } else {
+            "consistent"
+        }
+    }
+}
+
 #[derive(Clone, Copy)]
 enum Shape {
     /// Writes, each over the one before.

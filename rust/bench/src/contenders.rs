@@ -1,130 +1,143 @@
-//! The calls that are timed, each by both contenders: the same bytes in, the
+//! The calls that are timed, each by every contender: the same bytes in, the
 //! same buffers out.
 
-use crate::classes::Class;
+use crate::libraries::{Answer, Check, Clauses, Function, Lookup};
 use judge::field::{decode, Series};
-use second::{MAX_CLAUSE_NUMBERS, MAX_LEMMA_BYTES};
-use zunidelo::Checked;
+use zunidelo::{CLAUSE_NUMBERS, LEMMA_BYTES};
 
-/// A call about one query, with the buffer that its answer goes to.
-pub trait Contest {
-    /// The call about this query, or nothing where it would be refused.
-    fn about(class: &Class) -> Option<Self>
-    where
-        Self: Sized;
+/// What the functions return, as the header numbers it.
+const CONSISTENT: u32 = 0;
+const CONFLICT: u32 = 1;
+const REFUSED: u32 = 2;
 
-    /// The answer in numbers; the rest of it is in the buffer.
-    fn library(&mut self) -> [usize; 3];
-    fn second(&mut self) -> [usize; 3];
+/// What a buffer is filled with, so that a write of 0 is seen.
+const BYTE: u8 = 0xAA;
+const NUMBER: i32 = -7;
 
-    /// Whether both answer the same into the buffer.
-    fn agree(&mut self) -> bool;
-}
-
-pub struct Check {
-    query: Vec<u8>,
-    answer: Vec<u8>,
-}
-
-impl Contest for Check {
-    fn about(class: &Class) -> Option<Check> {
-        Some(Check { query: class.query.clone(), answer: vec![0; MAX_LEMMA_BYTES] })
-    }
-
-    fn library(&mut self) -> [usize; 3] {
-        match zunidelo::check_into(&self.query, &mut self.answer) {
-            Ok(Checked::Consistent { pairs }) => [0, pairs, 0],
-            Ok(Checked::Conflict { pairs, length }) => [1, pairs, length],
-            Err(refusal) => [2, usize::from(refusal.number()), refusal.offset()],
-        }
-    }
-
-    fn second(&mut self) -> [usize; 3] {
-        match second::check(&self.query, self.answer.len()) {
-            second::Checked::Consistent { pairs } => [0, pairs, 0],
-            second::Checked::Conflict { pairs, lemma } => {
-                self.answer[..lemma.len()].copy_from_slice(&lemma);
-                [1, pairs, lemma.len()]
-            }
-            second::Checked::Refused(refusal) => [2, usize::from(refusal.number), refusal.offset],
-        }
-    }
-
-    fn agree(&mut self) -> bool {
-        self.answer.fill(0);
-        let library = (self.library(), self.answer.clone());
-        self.answer.fill(0);
-        library == (self.second(), self.answer.clone())
-    }
-}
-
-/// A cell of the newest array, at an index that most sources have.
-pub struct Lookup {
+/// A query, a cell of its newest array at an index that most sources have,
+/// and the buffers that answers go to.
+#[derive(PartialEq)]
+pub struct Question {
     query: Vec<u8>,
     array: u64,
     index: u64,
+    answer: Vec<u8>,
+    numbers: Vec<i32>,
+}
+
+impl Question {
+    pub fn about(query: &[u8]) -> Question {
+        let (fields, _) = decode(query);
+        let arrays = fields.iter().filter(|field| field.gives() == Series::Array).count() as u64;
+        Question {
+            query: query.to_vec(),
+            array: arrays.saturating_sub(1),
+            index: 1,
+            answer: vec![BYTE; LEMMA_BYTES],
+            numbers: vec![NUMBER; CLAUSE_NUMBERS],
+        }
+    }
+}
+
+/// A function of the library, which the second program has as well.
+pub trait Contest: Function {
+    const NAME: &'static str;
+
+    /// Whether the function refuses no query of this verdict.
+    fn answers(conflict: bool) -> bool;
+
+    fn library(self, question: &mut Question) -> Answer;
+    fn second(question: &mut Question) -> Answer;
+}
+
+impl Contest for Check {
+    const NAME: &'static str = "check";
+
+    fn answers(_conflict: bool) -> bool {
+        true
+    }
+
+    fn library(self, question: &mut Question) -> Answer {
+        self.call(&question.query, &mut question.answer)
+    }
+
+    fn second(question: &mut Question) -> Answer {
+        match second::check(&question.query, question.answer.len()) {
+            second::Checked::Consistent { pairs } => (CONSISTENT, [0, 0, pairs as u64, 0, 0]),
+            second::Checked::Conflict { pairs, lemma } => {
+                question.answer[..lemma.len()].copy_from_slice(&lemma);
+                (CONFLICT, [0, 0, pairs as u64, lemma.len() as u64, 0])
+            }
+            second::Checked::Refused(refusal) => refused(refusal),
+        }
+    }
 }
 
 impl Contest for Lookup {
-    fn about(class: &Class) -> Option<Lookup> {
-        let (fields, _) = decode(&class.query);
-        let arrays = fields.iter().filter(|field| field.gives() == Series::Array).count() as u64;
-        let lookup = Lookup { query: class.query.clone(), array: arrays - 1, index: 1 };
-        (!class.conflict).then_some(lookup)
+    const NAME: &'static str = "lookup";
+
+    fn answers(conflict: bool) -> bool {
+        !conflict
     }
 
-    fn library(&mut self) -> [usize; 3] {
-        match zunidelo::lookup(&self.query, self.array, self.index) {
-            Ok(value) => [0, value as usize, 0],
-            Err(refusal) => [2, usize::from(refusal.number()), refusal.offset()],
+    fn library(self, question: &mut Question) -> Answer {
+        self.call(&question.query, question.array, question.index)
+    }
+
+    fn second(question: &mut Question) -> Answer {
+        match second::lookup(&question.query, question.array, question.index) {
+            Ok(value) => (CONSISTENT, [0, 0, value, 0, 0]),
+            Err(refusal) => refused(refusal),
         }
-    }
-
-    fn second(&mut self) -> [usize; 3] {
-        match second::lookup(&self.query, self.array, self.index) {
-            Ok(value) => [0, value as usize, 0],
-            Err(refusal) => [2, usize::from(refusal.number), refusal.offset],
-        }
-    }
-
-    fn agree(&mut self) -> bool {
-        self.library() == self.second()
     }
 }
 
-pub struct ClauseWriting {
-    query: Vec<u8>,
-    run: Vec<i32>,
-}
+impl Contest for Clauses {
+    const NAME: &'static str = "clauses";
 
-impl Contest for ClauseWriting {
-    fn about(class: &Class) -> Option<ClauseWriting> {
-        let run = vec![0; MAX_CLAUSE_NUMBERS];
-        class.conflict.then(|| ClauseWriting { query: class.query.clone(), run })
+    fn answers(conflict: bool) -> bool {
+        conflict
     }
 
-    fn library(&mut self) -> [usize; 3] {
-        match zunidelo::clauses_into(&self.query, &mut self.run) {
-            Ok(totals) => [totals.variables, totals.clauses, totals.count],
-            Err(refusal) => [0, usize::from(refusal.number()), refusal.offset()],
-        }
+    fn library(self, question: &mut Question) -> Answer {
+        self.call(&question.query, &mut question.numbers)
     }
 
-    fn second(&mut self) -> [usize; 3] {
-        match second::clauses(&self.query, self.run.len()) {
+    fn second(question: &mut Question) -> Answer {
+        match second::clauses(&question.query, question.numbers.len()) {
             Ok(written) => {
                 let count = written.numbers.len();
-                self.run[..count].copy_from_slice(&written.numbers);
-                [written.variables, written.clauses, count]
+                question.numbers[..count].copy_from_slice(&written.numbers);
+                let totals = [written.variables, written.clauses, count].map(|total| total as u64);
+                (CONFLICT, [0, 0, totals[0], totals[1], totals[2]])
             }
-            Err(refusal) => [0, usize::from(refusal.number), refusal.offset],
+            Err(refusal) => refused(refusal),
         }
     }
+}
 
-    fn agree(&mut self) -> bool {
-        self.run.fill(0);
-        let library = (self.library(), self.run.clone());
-        self.run.fill(0);
-        library == (self.second(), self.run.clone())
+fn refused(refusal: second::Refusal) -> Answer {
+    (REFUSED, [u64::from(refusal.number), refusal.offset as u64, 0, 0, 0])
+}
+
+/// Ends the run where a contender answers otherwise than the library: in what
+/// is returned, in the report or in a buffer.
+pub fn assert_all_agree<C: Contest>(name: &str, query: &[u8]) {
+    let asked = |call: &dyn Fn(&mut Question) -> Answer| {
+        let mut question = Question::about(query);
+        (call(&mut question), question)
+    };
+    let library = asked(&|question| C::TODAY.library(question));
+    let agree = |contender: &str, other: (Answer, Question)| {
+        let (today, others) = (library.0, other.0);
+        assert!(
+            library == other,
+            "{}, {name}: the library answers {today:?}, the {contender} {others:?}, or their buffers differ",
+            C::NAME
+        );
+    };
+    agree("second program", asked(&C::second));
+    if let Some(before) = C::BEFORE {
+        agree("earlier library", asked(&|question| before.library(question)));
     }
 }

@@ -1,28 +1,29 @@
 //! The least that a call through the C face costs: an empty query, which has
 //! no field, and a query of one byte, which is refused at once.
 
-use crate::timing::{alone, Times};
-use std::hint::black_box;
+use crate::contenders::{assert_all_agree, Contest};
+use crate::libraries::{Check, Clauses, Lookup};
+use crate::table::{before_columns, before_titles, cell, column};
+use crate::timing::{in_turn, libraries};
 
 const NO_BYTE: &[u8] = &[];
 const ONE_BYTE: &[u8] = &[9];
 
 pub fn print() {
-    let mut answer = [0; zunidelo::LEMMA_BYTES];
-    let mut run = [0; 1];
-    println!("\nthe least of a call");
-    line("check of no byte", alone(|| zunidelo::check_into(black_box(NO_BYTE), &mut answer)));
-    line(
-        "check of one byte, refused",
-        alone(|| zunidelo::check_into(black_box(ONE_BYTE), &mut answer)),
-    );
-    line("lookup of one byte, refused", alone(|| zunidelo::lookup(black_box(ONE_BYTE), 0, 0)));
-    line(
-        "clauses of one byte, refused",
-        alone(|| zunidelo::clauses_into(black_box(ONE_BYTE), &mut run)),
-    );
+    println!();
+    print_line("the least of a call", column("library", "") + &before_titles::<Check>());
+    measure::<Check>("check of no byte", NO_BYTE);
+    measure::<Check>("check of one byte, refused", ONE_BYTE);
+    measure::<Lookup>("lookup of one byte, refused", ONE_BYTE);
+    measure::<Clauses>("clauses of one byte, refused", ONE_BYTE);
 }
 
-fn line(name: &str, times: Times) {
-    println!("{name:<28} {:>8.0} ({:.0}..{:.0})", times.median(), times.least(), times.most());
+fn measure<C: Contest>(name: &str, query: &[u8]) {
+    assert_all_agree::<C>(name, query);
+    let times = in_turn(&libraries::<C>(), query);
+    print_line(name, cell(&times[0]) + &before_columns::<C>(&times, query));
+}
+
+fn print_line(name: &str, columns: String) {
+    println!("{name:<28} {}", columns.trim_end());
 }

@@ -6,10 +6,11 @@
 #![allow(unsafe_code)]
 
 use crate::classes::Class;
+use crate::contenders::{Contest, Question};
+use crate::libraries::{Check, Clauses, Lookup};
 use std::alloc::{alloc, dealloc, Layout};
 use std::ffi::{c_int, c_ulong, c_void};
 use std::hint::black_box;
-use zunidelo::{CLAUSE_NUMBERS, LEMMA_BYTES};
 
 /// Far more than a call takes.
 const STACK_BYTES: usize = 4 << 20;
@@ -94,23 +95,29 @@ fn depth(call: &mut (dyn FnMut() + Send)) -> usize {
     deepest(call).saturating_sub(empty)
 }
 
+/// What the call about this query takes in today's library, then in the earlier one.
+pub fn stacks<C: Contest>(query: &[u8]) -> Vec<usize> {
+    let mut question = Question::about(query);
+    C::linked()
+        .map(|function| depth(&mut || _ = black_box(function.library(&mut question))))
+        .collect()
+}
+
 /// The most of all classes, for each call.
 pub fn print(classes: &[Class]) {
-    let mut answer = vec![0; LEMMA_BYTES];
-    let mut run = vec![0; CLAUSE_NUMBERS];
-    let mut most = [0; 3];
-    for Class { query, .. } in classes {
-        let depths = [
-            depth(&mut || _ = black_box(zunidelo::check_into(query, &mut answer))),
-            depth(&mut || _ = black_box(zunidelo::lookup(query, 0, 1))),
-            depth(&mut || _ = black_box(zunidelo::clauses_into(query, &mut run))),
-        ];
-        for (most, depth) in most.iter_mut().zip(depths) {
-            *most = depth.max(*most);
+    println!("\nthe most stack of a call, in bytes, over all classes");
+    line::<Check>(classes);
+    line::<Lookup>(classes);
+    line::<Clauses>(classes);
+}
+
+fn line<C: Contest>(classes: &[Class]) {
+    let mut most = vec![0; C::linked().count()];
+    for class in classes {
+        for (most, stack) in most.iter_mut().zip(stacks::<C>(&class.query)) {
+            *most = stack.max(*most);
         }
     }
-    println!("\nthe most stack of a call, in bytes, over all classes");
-    for (name, most) in ["check", "lookup", "clauses"].into_iter().zip(most) {
-        println!("{name:<10} {most:>8}");
-    }
+    print!("{:<10} {:>8}", C::NAME, most[0]);
+    println!("{}", most.get(1).map_or(String::new(), |before| format!(", before {before}")));
 }

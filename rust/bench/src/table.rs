@@ -2,31 +2,26 @@
 //! that names the classes in which the library is much slower.
 
 use crate::classes::Class;
-use crate::contenders::Contest;
-use crate::timing::{in_turn, Times};
+use crate::contenders::{assert_all_agree, Contest};
+use crate::stack::stacks;
+use crate::timing::{in_turn, libraries, second_program, Times};
 
 /// From this ratio on, library to second program, a class is named.
 const SLOWER: f64 = 1.5;
 
-pub fn print<C: Contest>(call: &str, classes: &[Class]) {
-    let (library, second) = (column("library", ""), column("second", "program"));
-    println!("\n{call:<22} {:<10} {:>5} {library} {second} {:>5}", "verdict", "bytes", "ratio");
+pub fn print<C: Contest>(classes: &[Class]) {
+    print!("\n{:<22} {:<10} {:>5} ", C::NAME, "verdict", "bytes");
+    print!("{} {} {:>5}", column("library", ""), column("second", "program"), "ratio");
+    println!("{}", before_titles::<C>());
     let mut slower = Vec::new();
     for class in classes {
-        let Some(mut contest) = C::about(class) else { continue };
-        let verdict = if class.conflict { "conflict" } else { "consistent" };
-        assert!(contest.agree(), "both answer the same: {call}, {}, {verdict}", class.name);
-        let (library, second) = in_turn(&mut contest, C::library, C::second);
-        let ratio = library.median() / second.median();
-        println!(
-            "{:<22} {verdict:<10} {:>5} {} {} {ratio:>5.2}",
-            class.name,
-            class.query.len(),
-            cell(&library),
-            cell(&second)
-        );
-        if ratio > SLOWER {
-            slower.push(format!("{}, {verdict} ({ratio:.1})", class.name));
+        let name = format!("{}, {}", class.name, class.verdict());
+        assert_all_agree::<C>(&name, &class.query);
+        if C::answers(class.conflict) {
+            let ratio = print_row::<C>(class);
+            if ratio > SLOWER {
+                slower.push(format!("{name} ({ratio:.1})"));
+            }
         }
     }
     if slower.is_empty() {
@@ -36,11 +31,39 @@ pub fn print<C: Contest>(call: &str, classes: &[Class]) {
     }
 }
 
-fn column(median: &str, spread: &str) -> String {
+/// Answers the ratio, library to second program.
+fn print_row<C: Contest>(class: &Class) -> f64 {
+    let mut contenders = vec![second_program::<C>()];
+    contenders.extend(libraries::<C>());
+    let times = in_turn(&contenders, &class.query);
+    let (second, libraries) = (&times[0], &times[1..]);
+    let ratio = libraries[0].ratio_to(second);
+    print!("{:<22} {:<10} {:>5} ", class.name, class.verdict(), class.query.len());
+    print!("{} {} {ratio:>5.2}", cell(&libraries[0]), cell(second));
+    println!("{}", before_columns::<C>(libraries, &class.query));
+    ratio
+}
+
+pub fn column(median: &str, spread: &str) -> String {
     format!("{median:>10} {spread:<17}")
 }
 
-fn cell(times: &Times) -> String {
+pub fn cell(times: &Times) -> String {
     let spread = format!("({:.0}..{:.0})", times.least(), times.most());
     column(&format!("{:.0}", times.median()), &spread)
+}
+
+/// Where an earlier library is linked, the columns about it: its time, today's
+/// ratio to it, and the stack of the call today and before.
+pub fn before_columns<C: Contest>(libraries: &[Times], query: &[u8]) -> String {
+    let [library, before] = libraries else { return String::new() };
+    let ratio = library.ratio_to(before);
+    let stacks = stacks::<C>(query);
+    format!(" {} {ratio:>5.2} {:>6} {:>6}", cell(before), stacks[0], stacks[1])
+}
+
+pub fn before_titles<C: Contest>() -> String {
+    C::BEFORE.map_or(String::new(), |_| {
+        format!(" {} {:>5} {:>6} {:>6}", column("before", ""), "ratio", "stack", "before")
+    })
 }

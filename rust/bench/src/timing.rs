@@ -1,7 +1,8 @@
 //! The time of one call: in each round as many calls as fill some
-//! milliseconds, first by the one contender, then by the other.
+//! milliseconds, by one contender after another.
 
 use crate::clock::now;
+use crate::contenders::{Contest, Question};
 use std::hint::black_box;
 
 pub const ROUNDS: usize = 15;
@@ -9,65 +10,76 @@ pub const ROUNDS: usize = 15;
 /// What one contender's part of a round takes at least, in nanoseconds.
 const PART: f64 = 4e6;
 
-/// Nanoseconds of one call in each round, sorted.
+/// Nanoseconds of one call in each round.
 pub struct Times(Vec<f64>);
 
 impl Times {
     pub fn median(&self) -> f64 {
-        self.0[self.0.len() / 2]
+        median(self.0.clone())
     }
 
     pub fn least(&self) -> f64 {
-        self.0[0]
+        self.0.iter().copied().fold(f64::INFINITY, f64::min)
     }
 
     pub fn most(&self) -> f64 {
-        self.0[self.0.len() - 1]
+        self.0.iter().copied().fold(0.0, f64::max)
+    }
+
+    /// The median of each round's own ratio: what slows a whole round down
+    /// slows both, and leaves its ratio as it is.
+    pub fn ratio_to(&self, other: &Times) -> f64 {
+        median(self.0.iter().zip(&other.0).map(|(own, other)| own / other).collect())
     }
 }
 
-/// Nanoseconds of one call, over so many.
-fn time<T>(calls: u32, call: &mut impl FnMut() -> T) -> f64 {
-    let began = now();
-    for _ in 0..calls {
-        black_box(call());
-    }
-    (now() - began) / f64::from(calls)
+fn median(mut numbers: Vec<f64>) -> f64 {
+    numbers.sort_by(f64::total_cmp);
+    numbers[numbers.len() / 2]
+}
+
+/// One who is timed: nanoseconds of one call, over so many.
+pub type Contender = Box<dyn Fn(&mut Question, u32) -> f64>;
+
+fn contender<T>(call: impl Fn(&mut Question) -> T + 'static) -> Contender {
+    Box::new(move |question, calls| {
+        let began = now();
+        for _ in 0..calls {
+            black_box(call(question));
+        }
+        (now() - began) / f64::from(calls)
+    })
+}
+
+/// Today's library, then the earlier one: both through the same code.
+pub fn libraries<C: Contest>() -> Vec<Contender> {
+    C::linked().map(|function| contender(move |question| function.library(question))).collect()
+}
+
+pub fn second_program<C: Contest>() -> Contender {
+    contender(C::second)
 }
 
 /// How many calls fill a part of a round.
-fn enough<T>(call: &mut impl FnMut() -> T) -> u32 {
+fn enough(contender: &Contender, question: &mut Question) -> u32 {
     let mut calls = 1;
-    loop {
-        if time(calls, call) * f64::from(calls) >= PART {
-            return calls;
-        }
+    while contender(question, calls) * f64::from(calls) < PART {
         calls *= 2;
     }
+    calls
 }
 
-/// One contender alone.
-pub fn alone<T>(mut call: impl FnMut() -> T) -> Times {
-    let calls = enough(&mut call);
-    let mut times: Vec<f64> = (0..ROUNDS).map(|_| time(calls, &mut call)).collect();
-    times.sort_by(f64::total_cmp);
-    Times(times)
-}
-
-/// Two contenders in turn, so that a disturbance meets both.
-pub fn in_turn<C, T>(
-    contest: &mut C,
-    mut one: impl FnMut(&mut C) -> T,
-    mut other: impl FnMut(&mut C) -> T,
-) -> (Times, Times) {
-    let one_calls = enough(&mut || one(contest));
-    let other_calls = enough(&mut || other(contest));
-    let (mut ones, mut others) = (Vec::new(), Vec::new());
-    for _ in 0..ROUNDS {
-        ones.push(time(one_calls, &mut || one(contest)));
-        others.push(time(other_calls, &mut || other(contest)));
+/// All contenders in turn, so that a disturbance meets all.
+pub fn in_turn(contenders: &[Contender], query: &[u8]) -> Vec<Times> {
+    let mut question = Question::about(query);
+    let mut rounds = Vec::new();
+    for contender in contenders {
+        rounds.push((contender, enough(contender, &mut question), Vec::new()));
     }
-    ones.sort_by(f64::total_cmp);
-    others.sort_by(f64::total_cmp);
-    (Times(ones), Times(others))
+    for _ in 0..ROUNDS {
+        for (contender, calls, times) in &mut rounds {
+            times.push(contender(&mut question, *calls));
+        }
+    }
+    rounds.into_iter().map(|(_, _, times)| Times(times)).collect()
 }
