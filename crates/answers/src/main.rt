@@ -4,7 +4,6 @@ ghost use Prim.Native.Nat.{_≤_};
 use checker::Checked;
 use checker::Looked;
 use checker::Written;
-use libc::STDIN_FILENO;
 use print::PAGE;
 
 // More than any query that is asked about.
@@ -25,27 +24,18 @@ fn wide(byte: u8) -> usize
     byte as usize
 }
 
-// Reads so many bytes, and answers whether they were there.
-fn fill(bytes: &mut [u8], length: usize) -> bool {
-    if bytes.len() < length {
-        return false;
-    }
-    let held = io::read_full(STDIN_FILENO, &mut bytes[..length]);
-    length <= held
-}
-
 // A number of two bytes; 0 where there is none, which no question is then made of.
 fn take_two() -> usize
     ensures { λ r. ⌜ r ≤ 65535 ⌝ }
 {
     let mut bytes = [0u8; 2];
-    fill(&mut bytes, 2);
+    print::fill(&mut bytes, 2);
     wide(bytes[0]) * 256 + wide(bytes[1])
 }
 
 fn take_eight() -> u64 {
     let mut bytes = [0u8; 8];
-    fill(&mut bytes, 8);
+    print::fill(&mut bytes, 8);
     let mut number = 0u64;
     let mut k = 0;
     while k < 8 {
@@ -207,7 +197,7 @@ fn answer_front(question: u8, room: usize, array: u64, index: u64, bytes: &[u8],
 // Takes one question, and answers whether there was one.
 fn take_one() -> bool {
     let mut head = [0u8; 1];
-    if !fill(&mut head, 1) {
+    if !print::fill(&mut head, 1) {
         return false;
     }
     let question = head[0];
@@ -223,7 +213,7 @@ fn take_one() -> bool {
     }
     let length = take_two();
     let mut bytes = [0u8; QUERY];
-    if !fill(&mut bytes, length) {
+    if !print::fill(&mut bytes, length) {
         return false;
     }
     answer_front(question, room, array, index, &bytes, length);

@@ -1,13 +1,13 @@
 -- The headline theorems, of the functions' own answers: what a result and its buffer promise wherever the contract allows them, and that it
--- allows only one. `CheckAllows`, `LookAllows` and `WriteAllows` (specs/Reports.antt) are the contracts of `check`, `lookup` and `clauses`;
--- `before` and `after` are the buffer as it was lent and as it is handed back. The crate `tie` holds the functions to them by machine.
+-- allows only one. `CheckAllows`, `LookAllows`, `ListAllows` and `WriteAllows` (specs/Reports.antt) are the contracts of `check`, `lookup`, `cells`
+-- and `clauses`; `before` and `after`, and `indices′` after `indices`, are the buffer as it was lent and as it is handed back. The crate `tie` holds the functions to them by machine.
 -- Assumes nothing.
 use Prim.Native.Nat.{ℕ, _<_, _≤_, _^_}
 use native.Mathlib.Omega.{arith}
-use mathlib.Core.Path.{_≡_, sym, ap, _∙_, subst}
+use mathlib.Core.Path.{_≡_, sym, ap, ap₂, _∙_, subst}
 use mathlib.Core.Logic.{_⊎_, ⊎-map, _↔_}
-use mathlib.Core.Bool.{false, not}
-use mathlib.Core.List.{List}
+use mathlib.Core.Bool.{not}
+use mathlib.Core.List.{List, map}
 use lib.Dec.{eqb}
 use lib.IntN.{ℤ}
 use lib.ListN.{length, take, drop}
@@ -16,11 +16,13 @@ use Rattle.paper.specs.Terms.{given, Query}
 use Rattle.paper.specs.Interpretations.{Interpretation}
 use Rattle.paper.specs.Interpretations as Paper
 use Rattle.paper.specs.Load.{Loaded, load}
-use Rattle.paper.specs.Answers.{check, look, writeClauses}
+use Rattle.paper.specs.Cells.{Cell, cells}
+use Rattle.paper.specs.Answers.{check, look, listLoaded, list, writeClauses}
 use Rattle.meaning.proofs.Built.{AreBytes}
 use Rattle.meaning.proofs.Whole.{guessOf, pairsOf}
 use Rattle.meaning.proofs.Accepted.{accepted}
 use Rattle.meaning.proofs.Called.{look-none}
+use Rattle.meaning.proofs.Cells.{model-with}
 use Rattle.meaning.proofs.Verdict.{fits-none}
 use Rattle.meaning.proofs.Demands as Demands
 use Rattle.meaning.proofs.Demands.{Lemma, Clausal}
@@ -31,10 +33,14 @@ use Rattle.checker.specs.declared.Checked.{Checked}
 use Rattle.checker.specs.declared.Checked.the-variants.{Refused, Consistent, Conflict}
 use Rattle.checker.specs.declared.Looked.{Looked}
 use Rattle.checker.specs.declared.Looked.the-variants.{Refused as NotLooked, Value}
+use Rattle.checker.specs.declared.Listed.{Listed}
+use Rattle.checker.specs.declared.Listed.the-variants.{Refused as NotListed, Cells}
 use Rattle.checker.specs.declared.Written.{Written}
 use Rattle.checker.specs.declared.Written.the-variants.{Refused as NotWritten, Clauses}
-use Rattle.checker.specs.Reports.{reportOf, reported, lookReportOf, writeReportOf, writeReported, CheckAllows, LookAllows, WriteAllows}
-use Rattle.checker.proofs.Told.{checkedBy, checkTold, check-told, lookTold, look-told, writtenBy, writeTold, write-told, front, rest, check-over, write-over}
+use Rattle.checker.specs.Reports.{reportOf, reported, lookReportOf, writeReportOf, writeReported, CheckAllows, LookAllows, ListAllows, WriteAllows}
+use Rattle.checker.specs.Reports.{listReportOf, roomOf, beside}
+use Rattle.checker.proofs.Looks.{room-both}
+use Rattle.checker.proofs.Told.{checkedBy, checkTold, check-told, lookTold, look-told, listTold, list-told, indices-over, values-over, beside-with, writtenBy, writeTold, write-told, front, rest, check-over, write-over}
 
 -- "two results allowed by it are equal", with their buffers
 pub check-settled : (bytes before after other-after : List ℕ) (r other : Checked) → CheckAllows bytes before after r → CheckAllows bytes before other-after other
@@ -43,6 +49,11 @@ check-settled bytes before after other-after r other one two = (check-told one �
 
 pub lookup-settled : (bytes : List ℕ) (a x : ℕ) (r other : Looked) → LookAllows bytes a x r → LookAllows bytes a x other → r ≡ other
 lookup-settled bytes a x r other one two = look-told (look 32 bytes a x) one ∙ sym (look-told (look 32 bytes a x) two)
+
+pub cells-settled : (bytes : List ℕ) (a : ℕ) (indices indices′ other-indices values values′ other-values : List ℕ) (r other : Listed) → ListAllows bytes a indices indices′ values values′ r
+    → ListAllows bytes a indices other-indices values other-values other → (r ≡ other) × (indices′ ≡ other-indices) × (values′ ≡ other-values)
+cells-settled bytes a indices indices′ other-indices values values′ other-values r other one two =
+    (list-told one ∙ sym (list-told two), one .indices-run ∙ sym (two .indices-run), one .values-run ∙ sym (two .values-run))
 
 pub clauses-settled : (bytes : List ℕ) (before after other-after : List ℤ) (r other : Written) → WriteAllows bytes before after r
     → WriteAllows bytes before other-after other → (r ≡ other) × (after ≡ other-after)
@@ -56,6 +67,12 @@ module _ (bytes : List ℕ) (refusal at : ℕ) (loaded : load 32 bytes ≡ Loade
   pub lookup-refused : (a x : ℕ) (r : Looked) → LookAllows bytes a x r → r ≡ NotLooked (record { number = refusal; offset = at })
   lookup-refused a x r allowed =
       look-told (look 32 bytes a x) allowed ∙ ap lookTold (Demands.refused-alike 32 bytes refusal at loaded 0 a x .1) ∙ rw (Answered.refused-numbered 32 bytes refusal at loaded)
+
+  pub cells-refused : (a : ℕ) (indices indices′ values values′ : List ℕ) (r : Listed) → ListAllows bytes a indices indices′ values values′ r
+      → r ≡ NotListed (record { number = refusal; offset = at })
+  unfolding list
+  cells-refused a indices indices′ values values′ r allowed =
+      list-told allowed ∙ ap (λ (one : Loaded). listTold (listLoaded a (roomOf indices values) one)) loaded ∙ rw (Answered.refused-numbered 32 bytes refusal at loaded)
 
   pub clauses-refused : (before after : List ℤ) (r : Written) → WriteAllows bytes before after r → r ≡ NotWritten (record { number = refusal; offset = at })
   clauses-refused before after r allowed =
@@ -71,6 +88,14 @@ check-refused-untouched bytes before after refusal allowed = check-rest-stays by
 
 pub consistent-untouched : (bytes before after : List ℕ) (pairs : ℕ) → CheckAllows bytes before after (Consistent pairs) → after ≡ before
 consistent-untouched bytes before after pairs allowed = check-rest-stays bytes before after (Consistent pairs) allowed
+
+pub cells-rest-stay : (bytes : List ℕ) (a : ℕ) (indices indices′ values values′ : List ℕ) (r : Listed) → ListAllows bytes a indices indices′ values values′ r
+    → (drop (listReportOf r .count) indices′ ≡ drop (listReportOf r .count) indices) × (drop (listReportOf r .count) values′ ≡ drop (listReportOf r .count) values)
+cells-rest-stay bytes a indices indices′ values values′ r allowed = (rest (indices-over allowed), rest (values-over allowed))
+
+pub cells-refused-untouched : (bytes : List ℕ) (a : ℕ) (indices indices′ values values′ : List ℕ) (refusal : Refusal) → ListAllows bytes a indices indices′ values values′ (NotListed refusal)
+    → (indices′ ≡ indices) × (values′ ≡ values)
+cells-refused-untouched bytes a indices indices′ values values′ refusal allowed = cells-rest-stay bytes a indices indices′ values values′ (NotListed refusal) allowed
 
 pub clauses-rest-stay : (bytes : List ℕ) (before after : List ℤ) (r : Written) → WriteAllows bytes before after r
     → drop (writeReportOf r .count) after ≡ drop (writeReportOf r .count) before
@@ -164,6 +189,37 @@ module _ (bytes : List ℕ) (query : Query) (are-bytes : AreBytes bytes) (loaded
   pub lookup-in-conflict : (Paper.Consistent 32 query → ⊥) → (a x : ℕ) (r : Looked) → LookAllows bytes a x r
       → r ≡ NotLooked (record { number = 12; offset = 0 })
   lookup-in-conflict unfit a x r allowed = look-told (look 32 bytes a x) allowed ∙ ap lookTold (Answered.look-unfit 32 bytes query are-bytes loaded unfit a x)
+
+  -- `cells` lists what `lookup` answers: at every index of an array the number beside it, and 0 where it is not listed.
+  pub cells-look : Paper.Consistent 32 query → (a : ℕ) → a < given array (query .terms) → (indices indices′ values values′ : List ℕ) (count : ℕ)
+      → ListAllows bytes a indices indices′ values values′ (Cells count) → (x : ℕ) → x < 2 ^ 32 → (r : Looked) → LookAllows bytes a x r
+      → r ≡ Value (beside x (take count indices′) (take count values′))
+  cells-look consistent a a-in indices indices′ values values′ count listed x x-in r looked =
+      look-told (look 32 bytes a x) looked
+      ∙ ap lookTold (look-none 32 bytes query loaded a x (fits-none (accepted 32 bytes query are-bytes loaded) consistent) a-in x-in)
+      ∙ ap Value
+      (model-with (query .terms) (guessOf query) a x
+      ∙ sym (beside-with x (cells (query .terms) (guessOf query) a))
+      ∙ ap₂ (beside x) (sym (front (indices-over listed) ∙ ap (map (λ (cell : Cell). cell .index)) all)) (sym (front (values-over listed) ∙ ap (map (λ (cell : Cell). cell .value)) all)))
+    where
+      all : list 32 bytes a (roomOf indices values) .listed ≡ cells (query .terms) (guessOf query) a
+      all = Answered.list-all 32 bytes query are-bytes loaded a (roomOf indices values) (sym (ap (λ report. report .refusal) (listed .report)))
+
+  -- With 302 places in either run every array of a consistent query is listed; of no array it is 11, and on a query in conflict 12.
+  pub cells-answered : Paper.Consistent 32 query → (a : ℕ) → a < given array (query .terms) → (indices indices′ values values′ : List ℕ) (r : Listed)
+      → ListAllows bytes a indices indices′ values values′ r → 302 ≤ length indices → 302 ≤ length values → (count : ℕ) × (r ≡ Cells count)
+  cells-answered consistent a a-in indices indices′ values values′ r allowed first second =
+      (_, list-told allowed ∙ ap listTold (Answered.list-answered 32 bytes query are-bytes loaded consistent a (roomOf indices values) a-in (room-both indices values 302 first second)))
+
+  pub cells-nowhere : Paper.Consistent 32 query → (a : ℕ) → given array (query .terms) ≤ a → (indices indices′ values values′ : List ℕ) (r : Listed)
+      → ListAllows bytes a indices indices′ values values′ r → r ≡ NotListed (record { number = 11; offset = 0 })
+  cells-nowhere consistent a outside indices indices′ values values′ r allowed =
+      list-told allowed ∙ ap listTold (Answered.list-nowhere 32 bytes query are-bytes loaded consistent a (roomOf indices values) outside)
+
+  pub cells-in-conflict : (Paper.Consistent 32 query → ⊥) → (a : ℕ) (indices indices′ values values′ : List ℕ) (r : Listed)
+      → ListAllows bytes a indices indices′ values values′ r → r ≡ NotListed (record { number = 12; offset = 0 })
+  cells-in-conflict unfit a indices indices′ values values′ r allowed =
+      list-told allowed ∙ ap listTold (Answered.list-unfit 32 bytes query are-bytes loaded unfit a (roomOf indices values))
 
   -- Demand 3. What is read off the numbers that `clauses` wrote says exactly what is read off the bytes that `check` wrote.
   pub clauses-say : (before after : List ℕ) (pairs long : ℕ) → CheckAllows bytes before after (Conflict pairs long)

@@ -1,11 +1,9 @@
--- The laws that carry the tables' answers to the paper's.
-pub mod Joined
+-- The laws that the functions' proofs cite.
+pub mod Ruling
 pub mod Facts
-pub mod Answers
-pub mod Concluding
-pub mod Holding
+pub mod Looks
+pub mod Copies
 pub mod Sizes
-pub mod Cells
-pub mod Runs
+pub mod Writes
 pub mod Told
 pub mod Headline

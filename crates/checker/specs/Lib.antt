@@ -1,4 +1,3 @@
--- The public functions' answers, in the paper's words, and the words of the functions between.
-pub mod Held
-pub mod Judged
+-- The public functions' answers, in the paper's words, and what the functions between come to.
+pub mod Fronted
 pub mod Reports

@@ -3,11 +3,12 @@
 -- Assumes nothing.
 use Prim.Native.Nat.{ℕ}
 use mathlib.Core.Path.{_≡_}
-use mathlib.Core.Bool.{Bool, true, false, not}
-use mathlib.Core.List.{List}
-use lib.Dec.{eqb}
+use mathlib.Core.Bool.{Bool, true, false, cond, not}
+use mathlib.Core.List.{List, [], _∷_, map}
+use lib.Dec.{eqb, ltb}
 use lib.IntN.{ℤ}
 use lib.ListN.{length}
+use Rattle.paper.specs.Cells.{Cell}
 use Rattle.paper.specs.Answers.{Verdict, writtenOver}
 use Rattle.paper.specs.Answers as Paper
 use Rattle.query.specs.declared.Refusal.{Refusal}
@@ -15,6 +16,8 @@ use Rattle.checker.specs.declared.Checked.{Checked}
 use Rattle.checker.specs.declared.Checked.the-variants.{Refused, Consistent, Conflict}
 use Rattle.checker.specs.declared.Looked.{Looked}
 use Rattle.checker.specs.declared.Looked.the-variants.{Refused as NotLooked, Value}
+use Rattle.checker.specs.declared.Listed.{Listed}
+use Rattle.checker.specs.declared.Listed.the-variants.{Refused as NotListed, Cells}
 use Rattle.checker.specs.declared.Written.{Written}
 use Rattle.checker.specs.declared.Written.the-variants.{Refused as NotWritten, Clauses}
 
@@ -56,6 +59,36 @@ lookReportOf (Value value) = record { refused = false; refusal = 0; offset = 0; 
 abbrev pub lookReported : Paper.Looked → LookReport
 lookReported answer = record { refused = not (eqb (answer .refusal) 0); refusal = answer .refusal; offset = answer .offset; value = answer .value }
 
+-- A listing's report: the refusal with its offset, if there is one, and how many cells there are
+pub record ListReport : Type 0 where
+  pub refused : Bool
+  pub refusal : ℕ
+  pub offset : ℕ
+  pub count : ℕ
+
+abbrev pub listReportOf : Listed → ListReport
+listReportOf (NotListed refusal) = record { refused = true; refusal = refusal .number; offset = refusal .offset; count = 0 }
+listReportOf (Cells count) = record { refused = false; refusal = 0; offset = 0; count = count }
+
+abbrev pub listReported : Paper.Listed → ListReport
+listReported answer = record { refused = not (eqb (answer .refusal) 0); refusal = answer .refusal; offset = answer .offset; count = length (answer .listed) }
+
+-- two runs have room for as many cells as the shorter one
+abbrev pub roomOf : (indices values : List ℕ) → ℕ
+roomOf indices values = cond (ltb (length indices) (length values)) (length indices) (length values)
+
+-- a listing's answer and the two runs that it leaves, of indices and of values, are the paper's
+pub record ListedAs (answer : Paper.Listed) (indices indices′ values values′ : List ℕ) (r : Listed) : Type 0 where
+  pub report : listReportOf r ≡ listReported answer
+  pub indices-run : indices′ ≡ writtenOver indices (map (λ cell. cell .index) (answer .listed))
+  pub values-run : values′ ≡ writtenOver values (map (λ cell. cell .value) (answer .listed))
+
+-- what two runs say of an index: the number beside it, and 0 where it does not stand there
+abbrev pub beside : (x : ℕ) (indices values : List ℕ) → ℕ
+beside x [] values = 0
+beside x (index ∷ indices) [] = 0
+beside x (index ∷ indices) (value ∷ values) = cond (eqb index x) value (beside x indices values)
+
 -- The clause writer's report: the refusal with its offset, if there is one, and the totals
 pub record WriteReport : Type 0 where
   pub refused : Bool
@@ -85,12 +118,15 @@ pub record WrittenAs (answer : Paper.Written) (before after : List ℤ) (r : Wri
   pub report : writeReportOf r ≡ writeReported answer
   pub run : after ≡ writtenOver before (answer .written)
 
--- The contracts of `check`, `lookup` and `clauses`: what they may answer of these bytes, and leave in a buffer that held `before`
+-- The contracts of `check`, `lookup`, `cells` and `clauses`: what they may answer of these bytes, and leave in a buffer that held `before`
 abbrev pub CheckAllows : (bytes before after : List ℕ) → Checked → Type 0
 CheckAllows bytes before after r = CheckedAs (Paper.check 32 bytes (length before)) before after r
 
 abbrev pub LookAllows : (bytes : List ℕ) (a x : ℕ) → Looked → Type 0
 LookAllows bytes a x r = lookReportOf r ≡ lookReported (Paper.look 32 bytes a x)
+
+abbrev pub ListAllows : (bytes : List ℕ) (a : ℕ) (indices indices′ values values′ : List ℕ) → Listed → Type 0
+ListAllows bytes a indices indices′ values values′ r = ListedAs (Paper.list 32 bytes a (roomOf indices values)) indices indices′ values values′ r
 
 abbrev pub WriteAllows : (bytes : List ℕ) (before after : List ℤ) → Written → Type 0
 WriteAllows bytes before after r = WrittenAs (Paper.writeClauses 32 bytes (length before)) before after r

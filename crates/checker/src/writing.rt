@@ -1,34 +1,37 @@
 // The clause writer: the clauses of the lemma of a query in conflict.
-ghost use Prim.Native.Nat.{_≤_};
-ghost use Rattle.checker.specs.Judged.{Judgeable, WrittenIn};
+ghost use mathlib.Core.List.{List};
+ghost use Prim.Native.Nat.{ℕ};
+ghost use Rattle.checker.specs.Fronted.{Judgeable, JudgedBy};
 ghost use Rattle.checker.specs.Reports.{WriteAllows};
-use crate::NO_ROOM;
-use crate::OTHER_VERDICT;
-use crate::Ruling;
 use crate::Totals;
 use crate::Written;
-use crate::judge;
-use crate::literals_between;
+use crate::front::Ruling;
+use crate::front::judge;
+use crate::front::pair_literals;
 use lemma::Found;
+use paper::MAX_BASES;
+use paper::MAX_BOOLEANS;
+use paper::MAX_EDGES;
+use paper::MAX_LITERALS;
+use paper::MAX_SOURCES;
+use paper::NO_ROOM;
+use paper::OTHER_VERDICT;
+use paper::WIDTH;
 use query::Refusal;
-use terms::Edges;
-use terms::Sources;
-
-// Values are those below 2^32.
-const WIDTH: usize = 32;
+use terms::Counts;
 
 // The answer of the clause writer, once there is a ruling: 12, then 10.
-fn write(
-    sources: Sources,
-    edges: Edges,
-    arrays: usize,
-    bases: usize,
-    booleans: usize,
+fn write<'a>(
+    values: &'a [u64; MAX_BASES],
+    truths: &'a [u8; MAX_BOOLEANS],
+    sources: &'a [u32; MAX_SOURCES],
+    edges: &'a [u32; MAX_EDGES],
+    counts: Counts,
     ruling: Ruling,
     numbers: &mut [i32],
 ) -> Written
-    requires { ⌜ Judgeable sources edges arrays ruling × (bases ≤ 256) × (booleans ≤ 64) ⌝ }
-    ensures { λ r. ⌜ WrittenIn sources edges arrays bases booleans (ruling .found) (now (numbers .entry)) (now (numbers .exit)) r ⌝ }
+    requires { ⌜ Judgeable (now values) (now truths) (now sources) (now edges) counts ruling ⌝ }
+    ensures { λ r. ⌜ ((bytes : List ℕ) → JudgedBy bytes (now (values .entry)) (now (truths .entry)) (now (sources .entry)) (now (edges .entry)) counts ruling → WriteAllows bytes (now (numbers .entry)) (now (numbers .exit)) r) ⌝ }
 {
     let found = ruling.found;
     match found {
@@ -37,20 +40,32 @@ fn write(
             offset: 0,
         }),
         Found::Pair(first, later) => {
-            let literals = literals_between(sources, edges, arrays, first, later);
-            let counts = cnf::counts(literals, WIDTH);
-            if numbers.len() < counts.numbers {
+            let mut literals = [0u32; MAX_LITERALS];
+            let count = pair_literals(
+                values,
+                truths,
+                sources,
+                edges,
+                counts,
+                first,
+                later,
+                &mut literals,
+            );
+            let totals = cnf::counts(&literals, count, WIDTH);
+            if numbers.len() < totals.numbers {
                 return Written::Refused(Refusal {
                     number: NO_ROOM,
                     offset: 0,
                 });
             }
-            let count = cnf::put_clauses(literals, bases, booleans, WIDTH, numbers);
-            let variables = WIDTH * bases + booleans + counts.fresh;
+            let bases = counts.bases as usize;
+            let booleans = counts.booleans as usize;
+            let written = cnf::put_clauses(&literals, count, bases, booleans, WIDTH, numbers);
+            let variables = WIDTH * bases + booleans + totals.fresh;
             Written::Clauses(Totals {
                 variables,
-                clauses: counts.clauses,
-                count,
+                clauses: totals.clauses,
+                count: written,
             })
         }
     }
@@ -60,28 +75,31 @@ fn write(
 pub fn clauses(query: &[u8], numbers: &mut [i32]) -> Written
     ensures { λ r. ⌜ WriteAllows (now (query .entry)) (now (numbers .entry)) (now (numbers .exit)) r ⌝ }
 {
-    let loaded = terms::load(query);
-    let number = loaded.refusal;
-    let offset = loaded.offset;
+    let mut values = [0u64; MAX_BASES];
+    let mut truths = [0u8; MAX_BOOLEANS];
+    let mut reads = [0u16; MAX_BASES];
+    let mut sources = [0u32; MAX_SOURCES];
+    let mut edges = [0u32; MAX_EDGES];
+    let front = judge(
+        query,
+        &mut values,
+        &mut truths,
+        &mut reads,
+        &mut sources,
+        &mut edges,
+    );
+    let number = front.refusal;
+    let offset = front.offset;
     if number != 0 {
         return Written::Refused(Refusal { number, offset });
     }
-    let terms = loaded.terms;
-    let guess = loaded.guess;
-    let arrays = terms.arrays;
-    let sources = terms::graph::sources(terms, guess);
-    let edges = terms::graph::edges(terms, guess);
-    let mut rows = [0u64; 304];
-    let ruling = judge(
-        edges,
-        &sources.origin,
-        &sources.index_value,
-        &sources.assigned,
-        sources.count,
-        arrays,
-        &mut rows,
-    );
-    let bases = terms.bases;
-    let booleans = terms.booleans;
-    write(sources, edges, arrays, bases, booleans, ruling, numbers)
+    write(
+        &values,
+        &truths,
+        &sources,
+        &edges,
+        front.counts,
+        front.ruling,
+        numbers,
+    )
 }

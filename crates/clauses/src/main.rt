@@ -1,11 +1,9 @@
 // The clause program: one query on standard input, and its clauses on standard output.
 use checker::Totals;
 use checker::Written;
+use paper::MAX_NUMBERS;
 use print::PAGE;
 use print::QUERY_ROOM;
-
-// The most numbers that clauses take.
-const NUMBERS: usize = 12625;
 
 // "`p cnf` variables clauses"
 fn print_head(page: &mut [u8; PAGE], variables: usize, clauses: usize) -> usize {
@@ -27,19 +25,19 @@ fn print_number(page: &mut [u8; PAGE], used: usize, number: i32) -> usize {
 fn print_numbers(
     page: &mut [u8; PAGE],
     used: usize,
-    numbers: &[i32; NUMBERS],
+    numbers: &[i32; MAX_NUMBERS],
     count: usize,
 ) -> usize {
     let mut stand = used;
     let mut k = 0;
-    while k < NUMBERS && k < count {
+    while k < MAX_NUMBERS && k < count {
         stand = print_number(page, stand, numbers[k]);
         k += 1;
     }
     stand
 }
 
-fn print_clauses(numbers: &[i32; NUMBERS], totals: Totals) {
+fn print_clauses(numbers: &[i32; MAX_NUMBERS], totals: Totals) {
     let mut page = [0u8; PAGE];
     let mut used = print_head(&mut page, totals.variables, totals.clauses);
     used = print_numbers(&mut page, used, numbers, totals.count);
@@ -47,7 +45,7 @@ fn print_clauses(numbers: &[i32; NUMBERS], totals: Totals) {
 }
 
 fn write(query: &[u8]) {
-    let mut numbers = [0i32; NUMBERS];
+    let mut numbers = [0i32; MAX_NUMBERS];
     let written = checker::clauses(query, &mut numbers);
     match written {
         Written::Refused(refusal) => print::refused(refusal.number, refusal.offset),

@@ -10,13 +10,12 @@ use lib.ListN.{length, getD, length-append, length-map, List·getD-append, List�
 use lib.Seq.{getD-append-add}
 use Rattle.paper.specs.Lists.{concatMap, range}
 use Rattle.paper.specs.Clauses.{Clause, gadgets, linking, namedClauses, signedNumber, clausesOf}
-use Rattle.lemma.specs.declared.Literals.{Literals}
-use Rattle.lemma.specs.Literals.{literalsOf}
+use Rattle.lemma.specs.Rows.{Literals, literalsOf}
 use Rattle.cnf.specs.declared.numbers.Sizes.{Sizes}
 use Rattle.cnf.specs.declared.literal.Placed.{Placed}
 use Rattle.cnf.specs.Parts.{placedAt, closed, bitClauses, gadgetOf, linkingOf, clauseOf}
-use Rattle.cnf.proofs.Pieces.{side, no-clauses, by-bits, bits-count, two-clauses}
-use Rattle.cnf.proofs.Whole.{literalsFrom, literals-all, literals-step, literals-end}
+use Rattle.cnf.proofs.Pieces.{side, by-bits, two-clauses, none-count, bits-count}
+use Rattle.cnf.proofs.Whole.{literalsFrom, literals-all, literals-step, literals-end, gadgetAt}
 
 -- in two lists, one after the other, an entry past the first stands so much further in the second
 in-second : {A : Type 0} (first second : List A) (d : A) (q : ℕ) → length first ≤ q → getD (first ++ second) q d ≡ getD second (q - length first) d
@@ -48,16 +47,15 @@ in-pairs {A} f d pairs first (suc n) q h = go (decLt q 2) (λ more. in-pairs f d
 pub own-clause : (w : ℕ) (literal : Placed) (q : ℕ) → q < length (gadgetOf w literal .clauses)
     → (getD (gadgetOf w literal .clauses) q [] ≡ getD (bitClauses literal (q / 2)) (q % 2) []) × (q / 2 < w)
 own-clause w literal q h =
-    let compares : gadgetOf w literal .rank ≡ 0 → ⊥ = λ rank. none (no-clauses w literal rank) in
-    let bits = by-bits w literal compares in
-    let below : q < 2 * w = omega (arith, ap (λ (all : List Clause). length all) bits, bits-count w literal) in
-    (ap (λ (all : List Clause). getD all q []) bits ∙ in-pairs (bitClauses literal) [] (two-clauses w literal) 0 w q below ∙ rw zero-plus, omega arith)
+    let compares : gadgetOf w literal .rank ≡ 0 → ⊥ = λ rank. none (none-count w literal rank) in
+    let below : q < 2 * w = omega (arith, bits-count w literal compares) in
+    (ap (λ (all : List Clause). getD all q []) (by-bits w literal compares) ∙ in-pairs (bitClauses literal) [] (two-clauses w literal) 0 w q below ∙ rw zero-plus, omega arith)
   where
     zero-plus : 0 + q / 2 ≡ q / 2
     zero-plus = omega arith
 
-    none : gadgetOf w literal .clauses ≡ [] → ⊥
-    none empty = omega (arith, ap (λ (all : List Clause). length all) empty)
+    none : length (gadgetOf w literal .clauses) ≡ 0 → ⊥
+    none empty = omega arith
 
 -- the clauses of the literals from k on, the first with fresh variable n, and the linking clause
 abbrev pub clausesFrom : (w : ℕ) → Literals → (n k : ℕ) → List Clause
@@ -69,7 +67,7 @@ unfolding namedClauses
 clauses-all w literals = rw (literals-all literals)
 
 pub clauses-step : (w : ℕ) (literals : Literals) (n k : ℕ) → k < literals .count
-    → clausesFrom w literals n k ≡ gadgetOf w (placedAt literals k n) .clauses ++ clausesFrom w literals (n + gadgetOf w (placedAt literals k n) .freshes) (k + 1)
+    → clausesFrom w literals n k ≡ gadgetAt w literals k n .clauses ++ clausesFrom w literals (n + gadgetAt w literals k n .freshes) (k + 1)
 clauses-step w literals n k h = rw (literals-step literals k h) (simp append-assoc)
 
 pub clauses-end : (w : ℕ) (literals : Literals) (n k : ℕ) → literals .count ≤ k → clausesFrom w literals n k ≡ linking (gadgets w 0 (literalsOf literals)) ∷ []
@@ -92,38 +90,37 @@ unfolding clausesOf
 sought-first w bases booleans literals n h = record { within = rw (clauses-all w literals) (simp length-map at h); same = rw (clauses-all w literals) }
 
 module _ (w : ℕ) (literals : Literals) (n m k q : ℕ) (more : k < literals .count) (sought : Sought w literals n m k q) where
+  -- the clauses of literal k, and those after it
+  abbrev here : List Clause
+  here = gadgetAt w literals k m .clauses
+
+  abbrev after : List Clause
+  after = clausesFrom w literals (m + gadgetAt w literals k m .freshes) (k + 1)
+
   -- it is none of literal k's
-  pub sought-later : (own f : ℕ) → own ≡ length (gadgetOf w (placedAt literals k m) .clauses) → own ≤ q → f ≡ gadgetOf w (placedAt literals k m) .freshes
-      → Sought w literals n (m + f) (k + 1) (q - own)
+  pub sought-later : (own f : ℕ) → own ≡ length here → own ≤ q → f ≡ gadgetAt w literals k m .freshes → Sought w literals n (m + f) (k + 1) (q - own)
   sought-later own f clauses past freshes =
       rw (freshes, clauses)
       (record {
-        within =
-            omega (
-              arith,
-              sought .within,
-              ap (λ (all : List Clause). length all) (clauses-step w literals m k more),
-              length-append (gadgetOf w (placedAt literals k m) .clauses) (clausesFrom w literals (m + gadgetOf w (placedAt literals k m) .freshes) (k + 1)),
-            );
+        within = omega (arith, sought .within, ap (λ (all : List Clause). length all) (clauses-step w literals m k more), length-append here after);
         same =
-            sym (in-second (gadgetOf w (placedAt literals k m) .clauses) (clausesFrom w literals (m + gadgetOf w (placedAt literals k m) .freshes) (k + 1)) [] q (omega arith))
+            sym (in-second here after [] q (omega arith))
             ∙ ap (λ (all : List Clause). getD all q []) (sym (clauses-step w literals m k more))
             ∙ sought .same;
       })
 
   -- it is one of literal k's
-  sought-here : q < length (gadgetOf w (placedAt literals k m) .clauses)
-      → getD (namedClauses w (literalsOf literals)) n [] ≡ getD (bitClauses (placedAt literals k m) (q / 2)) (q % 2) []
+  sought-here : q < length here → getD (namedClauses w (literalsOf literals)) n [] ≡ getD (bitClauses (placedAt (literals .rows) k m) (q / 2)) (q % 2) []
   sought-here h =
       sym (sought .same)
       ∙ ap (λ (all : List Clause). getD all q []) (clauses-step w literals m k more)
-      ∙ List·getD-append (gadgetOf w (placedAt literals k m) .clauses) (clausesFrom w literals (m + gadgetOf w (placedAt literals k m) .freshes) (k + 1)) [] q h
-      ∙ own-clause w (placedAt literals k m) q h .0
+      ∙ List·getD-append here after [] q h
+      ∙ own-clause w (placedAt (literals .rows) k m) q h .0
 
 -- in numbers: one of literal k's, or the linking clause
 module _ (sizes : Sizes) (literals : Literals) (n m k q : ℕ) (sought : Sought (sizes .width) literals n m k q) where
-  pub clause-here : k < literals .count → q < length (gadgetOf (sizes .width) (placedAt literals k m) .clauses)
-      → clauseOf (sizes .width) (sizes .bases) (sizes .booleans) literals n ≡ side sizes (placedAt literals k m) (q / 2) (q % 2)
+  pub clause-here : k < literals .count → q < length (gadgetAt (sizes .width) literals k m .clauses)
+      → clauseOf (sizes .width) (sizes .bases) (sizes .booleans) literals n ≡ side sizes (placedAt (literals .rows) k m) (q / 2) (q % 2)
   clause-here more h = clause-closed sizes literals n ∙ ap (closed sizes) (sought-here (sizes .width) literals n m k q more sought h)
 
   pub clause-last : literals .count ≤ k → clauseOf (sizes .width) (sizes .bases) (sizes .booleans) literals n ≡ linkingOf sizes literals

@@ -2,22 +2,22 @@
 -- Assumes nothing.
 use Prim.Native.Nat.{ℕ, zero, suc, _+_, _-_, _*_, _<_}
 use native.Mathlib.Omega.{arith}
-use mathlib.Core.Path.{_≡_, refl, ap}
+use mathlib.Core.Path.{_≡_, refl, ap, _∙_}
 use mathlib.Core.Bool.{Bool, true, false, cond}
 use mathlib.Core.List.{List, [], _∷_, _++_, map}
 use lib.Dec.{eqb}
-use lib.IntN.{ℤ, pos, negℤ}
+use lib.IntN.{ℤ, pos}
 use lib.ListN.{length, getD}
-use borrow.Author.Tests.{eq-eqb, ne-eqb}
+use borrow.Author.Tests.{ne-eqb}
 use Rattle.paper.specs.Lists.{concatMap, range}
 use Rattle.paper.specs.Lemma.{Literal}
-use Rattle.paper.specs.Clauses.{plus, fresh, Clause, Gadget, differing, agreeing, allAgree, gadget}
+use Rattle.paper.specs.Clauses.{plus, fresh, Clause, differing, agreeing, allAgree, gadget}
 use Rattle.meaning.proofs.Lists.{concatMap-append}
 use Rattle.meaning.proofs.Mapped.{length-over-range}
-use Rattle.lemma.specs.Literals.{literalFrom}
+use Rattle.lemma.specs.Rows.{literalFrom}
 use Rattle.cnf.specs.declared.numbers.Sizes.{Sizes}
 use Rattle.cnf.specs.declared.literal.Placed.{Placed}
-use Rattle.cnf.specs.Parts.{numbersOf, closed, bitClauses, bitNumbers, differences, gadgetOf, partOf}
+use Rattle.cnf.specs.Parts.{numbersOf, closed, bitClauses, gadgetOf}
 use Rattle.cnf.proofs.Runs.{range-step}
 
 -- any tag but those of "equal", "true" and "false" is of a literal with an e
@@ -61,21 +61,6 @@ module _ (sizes : Sizes) (literal : Placed) where
       (by-tag literal (λ two. concatMap (closed sizes) two ++ bitsFrom sizes literal (k + 1) ≡ closed sizes (getD two 0 []) ++ (closed sizes (getD two 1 []) ++ bitsFrom sizes literal (k + 1)))
       k refl refl)
 
-  -- what the literal puts into the linking clause, by its tag
-  pub link-equal : literal .tag ≡ 0x21 → numbersOf sizes (gadgetOf (sizes .width) literal .link) ≡ differences sizes (literal .fresh)
-  link-equal tag = rw tag
-
-  pub link-true : literal .tag ≡ 0x23 → numbersOf sizes (gadgetOf (sizes .width) literal .link) ≡ negℤ (pos (sizes .width * sizes .bases + literal .left + 1)) ∷ []
-  link-true tag = rw tag
-
-  pub link-false : literal .tag ≡ 0x24 → numbersOf sizes (gadgetOf (sizes .width) literal .link) ≡ pos (sizes .width * sizes .bases + literal .left + 1) ∷ []
-  link-false tag = rw tag
-
-  pub link-e : (literal .tag ≡ 0x21 → ⊥) → (literal .tag ≡ 0x23 → ⊥) → (literal .tag ≡ 0x24 → ⊥)
-      → numbersOf sizes (gadgetOf (sizes .width) literal .link) ≡ pos (sizes .width * sizes .bases + sizes .booleans + literal .fresh + 1) ∷ []
-  link-e equal isTrue isFalse =
-      ap (λ (one : Gadget). numbersOf sizes (one .link)) (with-e (literal .tag) equal isTrue isFalse (sizes .width) (literal .fresh) (literal .left) (literal .right))
-
 -- The clauses of a literal by its rank: none for a Boolean one, else two for each bit
 module _ (w : ℕ) (literal : Placed) where
   -- the literal, by the tests of its tag
@@ -113,22 +98,12 @@ module _ (w : ℕ) (literal : Placed) where
   pub two-clauses : (k : ℕ) → length (bitClauses literal k) ≡ 2
   two-clauses k = by-tag literal (λ two. length two ≡ 2) k refl refl
 
-  pub bits-count : length (concatMap (bitClauses literal) (range 0 w)) ≡ 2 * w
-  bits-count = length-over-range (bitClauses literal) 2 0 w two-clauses
+  -- in numbers
+  pub none-count : gadgetOf w literal .rank ≡ 0 → length (gadgetOf w literal .clauses) ≡ 0
+  none-count rank = ap (λ (all : List Clause). length all) (no-clauses rank)
 
--- The parts of what a literal brings, by part and rank
-module _ (sizes : Sizes) (literal : Placed) (part : ℕ) where
-  pub part-bits : part ≡ 3 → (gadgetOf (sizes .width) literal .rank ≡ 0 → ⊥) → partOf sizes part (gadgetOf (sizes .width) literal) ≡ bitNumbers sizes literal
-  part-bits clauses rank = rw (clauses, by-bits (sizes .width) literal rank)
-
-  pub part-no-bits : part ≡ 3 → gadgetOf (sizes .width) literal .rank ≡ 0 → partOf sizes part (gadgetOf (sizes .width) literal) ≡ []
-  part-no-bits clauses rank = rw (clauses, no-clauses (sizes .width) literal rank)
-
-  pub part-link : (part ≡ 3 → ⊥) → gadgetOf (sizes .width) literal .rank ≡ part → partOf sizes part (gadgetOf (sizes .width) literal) ≡ numbersOf sizes (gadgetOf (sizes .width) literal .link)
-  part-link other rank = rw (ne-eqb part 3 other, eq-eqb _ part rank)
-
-  pub part-no-link : (part ≡ 3 → ⊥) → (gadgetOf (sizes .width) literal .rank ≡ part → ⊥) → partOf sizes part (gadgetOf (sizes .width) literal) ≡ []
-  part-no-link other rank = rw (ne-eqb part 3 other, ne-eqb _ part rank)
+  pub bits-count : (gadgetOf w literal .rank ≡ 0 → ⊥) → length (gadgetOf w literal .clauses) ≡ 2 * w
+  bits-count rank = ap (λ (all : List Clause). length all) (by-bits rank) ∙ length-over-range (bitClauses literal) 2 0 w two-clauses
 
 pub differences-step : (sizes : Sizes) (n k : ℕ) → k < sizes .width
     → differencesFrom sizes n k ≡ pos (sizes .width * sizes .bases + sizes .booleans + (n + k) + 1) ∷ differencesFrom sizes n (k + 1)

@@ -12,10 +12,8 @@ use Rattle.paper.specs.Lists.{count, sum}
 use Rattle.paper.specs.Lemma.{Literal}
 use Rattle.paper.specs.Clauses.{Clause, gadget, gadgets, namedClauses, freshCount, clausesOf, run}
 use Rattle.meaning.proofs.Counts.{isEqual, hasE, isBoolean, clauses-count, fresh-count, numbers-count}
-use Rattle.lemma.specs.declared.Literals.{Literals}
-use Rattle.lemma.specs.Literals.{literalAt, literalsOf}
-use Rattle.cnf.specs.Parts.{placedAt, gadgetOf}
-use Rattle.cnf.proofs.Whole.{literalsFrom, literals-all, literals-step, literals-end}
+use Rattle.lemma.specs.Rows.{Literals, literalAt, literalsOf}
+use Rattle.cnf.proofs.Whole.{literalsFrom, literals-all, literals-step, literals-end, gadgetAt}
 use Rattle.cnf.proofs.Nth.{clausesFrom, clauses-all, clauses-step, clauses-end}
 
 -- the fresh variables, and the Boolean literals, from literal k on
@@ -49,7 +47,7 @@ tally-none w literals =
     }
 
 pub tally-more : (w : ℕ) (literals : Literals) (clauses freshes booleans k c f b : ℕ) → k < literals .count → Tallied w literals clauses freshes booleans k
-    → c ≡ length (gadgetOf w (placedAt literals k freshes) .clauses) → f ≡ gadgetOf w (placedAt literals k freshes) .freshes → b ≡ cond (eqb (gadgetOf w (placedAt literals k freshes) .rank) 0) 1 0
+    → c ≡ length (gadgetAt w literals k freshes .clauses) → f ≡ gadgetAt w literals k freshes .freshes → b ≡ cond (eqb (gadgetAt w literals k freshes .rank) 0) 1 0
     → Tallied w literals (clauses + c) (freshes + f) (booleans + b) (k + 1)
 tally-more w literals clauses freshes booleans k c f b more tallied ownClauses ownFreshes ownBoolean =
     rw ownFreshes
@@ -59,7 +57,7 @@ tally-more w literals clauses freshes booleans k c f b more tallied ownClauses o
             arith,
             tallied .all-clauses,
             ap (λ (all : List Clause). length all) (clauses-step w literals freshes k more),
-            length-append (gadgetOf w (placedAt literals k freshes) .clauses) (clausesFrom w literals (freshes + gadgetOf w (placedAt literals k freshes) .freshes) (k + 1)),
+            length-append (gadgetAt w literals k freshes .clauses) (clausesFrom w literals (freshes + gadgetAt w literals k freshes .freshes) (k + 1)),
           );
       all-freshes = omega (arith, tallied .all-freshes, ap (λ (ls : List Literal). sum (map (λ one. one .freshes) (gadgets w freshes ls))) (literals-step literals k more));
       all-booleans =
@@ -73,14 +71,14 @@ tally-more w literals clauses freshes booleans k c f b more tallied ownClauses o
 
 -- what the whole is, by the paper's counts
 module _ (w : ℕ) (literals : Literals) (clauses freshes booleans k : ℕ) (over : literals .count ≤ k) (tallied : Tallied w literals clauses freshes booleans k) where
-  pub clauses-total : (b m : ℕ) → clauses + 1 ≡ length (clausesOf w b m (literalsOf literals))
+  clauses-total : (b m : ℕ) → clauses + 1 ≡ length (clausesOf w b m (literalsOf literals))
   unfolding clausesOf
   clauses-total b m = simp length-map (omega (arith, tallied .all-clauses, ap (λ (all : List Clause). length all) (clauses-end w literals freshes k over)))
 
-  pub freshes-total : freshes ≡ freshCount w (literalsOf literals)
+  freshes-total : freshes ≡ freshCount w (literalsOf literals)
   freshes-total = omega (arith, tallied .all-freshes, ap (λ (ls : List Literal). sum (map (λ one. one .freshes) (gadgets w freshes ls))) (literals-end literals k over))
 
-  pub numbers-total : (b m : ℕ) → 4 * clauses + booleans + freshes + 1 ≡ length (run (clausesOf w b m (literalsOf literals)))
+  numbers-total : (b m : ℕ) → 4 * clauses + booleans + freshes + 1 ≡ length (run (clausesOf w b m (literalsOf literals)))
   numbers-total b m =
       let compared = count isEqual (literalsOf literals) + count hasE (literalsOf literals) in
       omega (
@@ -95,3 +93,6 @@ module _ (w : ℕ) (literals : Literals) (clauses freshes booleans k : ℕ) (ove
         mul-assoc 8 w compared,
         mul-assoc 2 w compared,
       )
+
+  pub totals : ((b m : ℕ) → clauses + 1 ≡ length (clausesOf w b m (literalsOf literals))) × ((freshes ≡ freshCount w (literalsOf literals)) × ((b m : ℕ) → 4 * clauses + booleans + freshes + 1 ≡ length (run (clausesOf w b m (literalsOf literals)))))
+  totals = (clauses-total, (freshes-total, numbers-total))

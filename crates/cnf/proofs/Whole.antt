@@ -5,20 +5,17 @@ use native.Mathlib.Nat.{sub-zero}
 use mathlib.Core.Path.{_≡_, refl, ap, _∙_}
 use mathlib.Core.List.{List, [], _∷_, _++_, map, append-assoc, append-nil, map-append}
 use lib.IntN.{ℤ, pos}
-use lib.ListN.{getD}
 use Rattle.paper.specs.Lists.{concatMap, range}
 use Rattle.paper.specs.Lemma.{Literal}
 use Rattle.paper.specs.Clauses.{Signed, Gadget, gadget, gadgets, namedClauses, clausesOf, run}
 use Rattle.meaning.proofs.Lists.{concatMap-append}
 use Rattle.meaning.proofs.Mapped.{concatMap-concatMap, concatMap-map}
-use Rattle.lemma.specs.declared.Literals.{Literals}
-use Rattle.lemma.specs.Literals.{literalFrom, literalAt, literalsOf}
+use Rattle.lemma.specs.Rows.{tagIn, leftIn, rightIn, literalFrom, Literals, rowAt, literalAt, literalsOf}
 use Rattle.cnf.specs.declared.numbers.Sizes.{Sizes}
-use Rattle.cnf.specs.declared.literal.Placed.{Placed}
-use Rattle.cnf.specs.Parts.{placedAt, numbersOf, gadgetOf, partOf, allOf, linkingOf}
+use Rattle.cnf.specs.Parts.{numbersOf, partOf, allOf, linkingOf}
 use Rattle.cnf.proofs.Runs.{range-step, range-end}
 
--- the literals from k on, and what they bring, the first with fresh variable n
+-- the literals from k on
 abbrev pub literalsFrom : Literals → (k : ℕ) → List Literal
 literalsFrom literals k = map (literalAt literals) (range k (literals .count - k))
 
@@ -32,21 +29,26 @@ literals-step literals k h = rw (range-step k (literals .count) h)
 pub literals-end : (literals : Literals) (k : ℕ) → literals .count ≤ k → literalsFrom literals k ≡ []
 literals-end literals k h = rw (range-end k (literals .count) h)
 
+-- what literal k brings, its first fresh variable being n
+abbrev pub gadgetAt : (w : ℕ) → Literals → (k n : ℕ) → Gadget
+gadgetAt w literals k n = gadget w n (literalAt literals k)
+
+-- a part of what the literals from k on bring, the first with fresh variable n
 abbrev pub partsFrom : Sizes → (part : ℕ) → Literals → (n k : ℕ) → List ℤ
 partsFrom sizes part literals n k = concatMap (partOf sizes part) (gadgets (sizes .width) n (literalsFrom literals k))
 
 pub parts-step : (sizes : Sizes) (part : ℕ) (literals : Literals) (n k : ℕ) → k < literals .count
     → partsFrom sizes part literals n k
-    ≡ partOf sizes part (gadgetOf (sizes .width) (placedAt literals k n)) ++ partsFrom sizes part literals (n + gadgetOf (sizes .width) (placedAt literals k n) .freshes) (k + 1)
+    ≡ partOf sizes part (gadgetAt (sizes .width) literals k n) ++ partsFrom sizes part literals (n + gadgetAt (sizes .width) literals k n .freshes) (k + 1)
 parts-step sizes part literals n k h = rw (literals-step literals k h)
 
 -- what the code computes of a literal's tag is so of the literal
-pub of-literal : (w : ℕ) (literals : Literals) (k n : ℕ) (measure : Gadget → ℕ) {m : ℕ} (literal : Placed)
-    → literal ≡ placedAt literals k n → ((n left right : ℕ) → m ≡ measure (gadget w n (literalFrom (literal .tag) left right)))
-    → m ≡ measure (gadgetOf w (placedAt literals k n))
-of-literal w literals k n measure literal same each =
-    each n (getD (literals .left) k 0) (getD (literals .right) k 0)
-    ∙ ap (λ (p : Placed). measure (gadget w n (literalFrom (p .tag) (getD (literals .left) k 0) (getD (literals .right) k 0)))) same
+pub of-literal : (w : ℕ) (literals : Literals) (k n : ℕ) (measure : Gadget → ℕ) {m tag : ℕ}
+    → tag ≡ tagIn (rowAt literals k) → ((n left right : ℕ) → m ≡ measure (gadget w n (literalFrom tag left right)))
+    → m ≡ measure (gadgetAt w literals k n)
+of-literal w literals k n measure same each =
+    let row = rowAt literals k in
+    each n (leftIn row) (rightIn row) ∙ ap (λ (tag : ℕ). measure (gadget w n (literalFrom tag (leftIn row) (rightIn row)))) same
 
 -- the links of a rank, in numbers, are that part of all literals
 numbers-joined : (sizes : Sizes) {A : Type 0} (f : A → List Signed) (xs : List A) → numbersOf sizes (concatMap f xs) ≡ concatMap (λ x. numbersOf sizes (f x)) xs

@@ -9,10 +9,10 @@ use lib.Dec.{eqb}
 use lib.IntN.{ℤ, pos, negℤ}
 use lib.ListN.{length, getD}
 use lib.Seq.{sets}
+use Rattle.paper.specs.Sizes.{maxBases, maxBooleans}
 use Rattle.paper.specs.Lists.{concatMap, range}
 use Rattle.paper.specs.Clauses.{plus, fresh, Clause, Gadget, differing, agreeing, gadget, gadgets, linking, signedNumber, clausesOf}
-use Rattle.lemma.specs.declared.Literals.{Literals}
-use Rattle.lemma.specs.Literals.{literalFrom, literalsOf}
+use Rattle.lemma.specs.Rows.{tagIn, leftIn, rightIn, literalFrom, Literals, literalsOf}
 use Rattle.cnf.specs.declared.numbers.Sizes.{Sizes}
 use Rattle.cnf.specs.declared.literal.Placed.{Placed}
 
@@ -24,18 +24,18 @@ pub record Put (before after : List ℤ) (at next : ℕ) (piece : List ℤ) : Ty
 -- What keeps every variable's number small: "At most .. 256 base terms, 64 Booleans", and at most 64 bits
 pub record Small (sizes : Sizes) : Type 0 where
   pub width : sizes .width ≤ 64
-  pub bases : sizes .bases ≤ 256
-  pub booleans : sizes .booleans ≤ 64
+  pub bases : sizes .bases ≤ maxBases
+  pub booleans : sizes .booleans ≤ maxBooleans
 
--- the same of a literal: term numbers of two bytes, and a fresh variable for each bit of at most 49 literals
+-- the same of a literal: term numbers of one byte, and a fresh variable for each bit of at most 49 literals
 pub record Near (literal : Placed) : Type 0 where
-  pub left : literal .left ≤ 65535
-  pub right : literal .right ≤ 65535
+  pub left : literal .left ≤ 255
+  pub right : literal .right ≤ 255
   pub fresh : literal .fresh ≤ 3136
 
 -- literal k of the code's, with its first fresh variable
-abbrev pub placedAt : Literals → (k n : ℕ) → Placed
-placedAt literals k n = record { tag = getD (literals .tags) k 0; left = getD (literals .left) k 0; right = getD (literals .right) k 0; fresh = n }
+abbrev pub placedAt : (rows : List ℕ) (k n : ℕ) → Placed
+placedAt rows k n = let row = getD rows k 0 in record { tag = tagIn row; left = leftIn row; right = rightIn row; fresh = n }
 
 -- a variable, as it stands or reversed
 abbrev pub signed : Bool → ℕ → ℤ

@@ -3,8 +3,9 @@ ghost use mathlib.Core.Path.{_≡_};
 ghost use mathlib.Core.List.{[]};
 ghost use Prim.Native.Nat.{ℕ, _+_, _<_, _≤_};
 ghost use lib.ListN.{length, getD};
+ghost use Rattle.paper.specs.Sizes.{maxLiterals};
 ghost use Rattle.paper.specs.Clauses.{gadget};
-ghost use Rattle.lemma.specs.Literals.{literalFrom};
+ghost use Rattle.lemma.specs.Rows.{literalFrom};
 ghost use Rattle.cnf.specs.Parts.{Put, Small, Near, placedAt, numbersOf, closed, bitClauses, bitNumbers, differences, gadgetOf, partOf};
 use crate::numbers::IS;
 use crate::numbers::NOT;
@@ -13,11 +14,13 @@ use crate::numbers::fresh_variable;
 use crate::numbers::put_signed;
 use crate::numbers::put_three;
 use crate::numbers::variable;
-use crate::numbers::wide;
-use lemma::EQUAL;
-use lemma::IS_FALSE;
-use lemma::IS_TRUE;
-use lemma::Literals;
+use lemma::left_of;
+use lemma::right_of;
+use lemma::tag_of;
+use paper::EQUAL;
+use paper::IS_FALSE;
+use paper::IS_TRUE;
+use paper::MAX_LITERALS;
 
 // A literal, with its first fresh variable counted from 0.
 pub struct Placed {
@@ -31,14 +34,15 @@ pub struct Placed {
 pub const CLAUSES: usize = 3;
 
 // Literal k, with its first fresh variable.
-pub fn literal_at(literals: Literals, k: usize, fresh: usize) -> Placed
-    requires { ⌜ (k < 49) × (fresh ≤ 3136) ⌝ }
-    ensures { λ r. ⌜ (r ≡ placedAt literals k fresh) × Near r ⌝ }
+pub fn literal_at(literals: &[u32; MAX_LITERALS], k: usize, fresh: usize) -> Placed
+    requires { ⌜ (k < maxLiterals) × (fresh ≤ 3136) ⌝ }
+    ensures { λ r. ⌜ (r ≡ placedAt (now (literals .entry)) k fresh) × Near r ⌝ }
 {
+    let row = literals[k];
     Placed {
-        tag: literals.tags[k],
-        left: wide(literals.left[k]),
-        right: wide(literals.right[k]),
+        tag: tag_of(row),
+        left: left_of(row),
+        right: right_of(row),
         fresh,
     }
 }

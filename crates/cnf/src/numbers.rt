@@ -37,16 +37,10 @@ pub fn negative(variable: usize) -> i32
     -(variable as i32)
 }
 
-// A term number of two bytes.
-pub fn wide(number: u16) -> usize
-    ensures { λ r. ⌜ (r ≡ number) × (r ≤ 65535) ⌝ }
-{
-    number as usize
-}
-
-// "Bit k of base term b (0 lowest) is variable 32b+k+1; Boolean m is 32B+m+1; fresh ones follow": all are so many bits above a base term.
+// "Bit k of base term b (0 lowest) is variable 32b+k+1; Boolean m is 32B+m+1; fresh ones follow": all are so many bits above a base term, at
+// most 64 Booleans and 3200 fresh ones.
 pub fn variable(width: usize, term: usize, above: usize) -> usize
-    requires { ⌜ (width ≤ 64) × (term ≤ 65535) × (above ≤ 65535) ⌝ }
+    requires { ⌜ (width ≤ 64) × (term ≤ 256) × (above ≤ 3264) ⌝ }
     ensures { λ r. ⌜ (r ≡ width * term + above + 1) × (r < 2147483648) ⌝ }
 {
     width * term + above + FIRST

@@ -3,5 +3,9 @@ pub mod Ranges
 pub mod Pairing
 pub mod Taken
 pub mod Stepping
+pub mod Ways
+pub mod Opened
+pub mod Walked
+pub mod Packing
 pub mod Listing
 pub mod Spelling

@@ -11,11 +11,10 @@ use mathlib.Core.Bool.{Bool, true, false, cond, false≢true}
 use mathlib.Core.List.{List, [], _∷_}
 use mathlib.Core.Option.{Option, none, some}
 use borrow.Author.Tests.{eq-eqb, ne-eqb}
-use lib.ListN.{getD, set, replicate, getD-replicate}
+use lib.ListN.{getD, set}
 use lib.Seq.{getD-set-other}
-use Rattle.paper.specs.Lists.{orElse, mapOption, find, range}
-use Rattle.terms.specs.declared.Sources.{Sources}
-use Rattle.reach.specs.Reached.{originAt, valueAt, NextOf}
+use Rattle.paper.specs.Lists.{range}
+use Rattle.reach.specs.Reached.{Sources, originAt, valueAt, NextOf, assignedAt}
 use Rattle.lemma.specs.Pairs.{Numbers, clashOf, alikeOf, clashIn, pairAmong, pairIn}
 use Rattle.lemma.proofs.Ranges.{range-from, range-end, find-skip}
 
@@ -36,7 +35,7 @@ module _ (s : Sources) (rows : List ℕ) where
 
   -- source k has the index value, the value and the row of source i
   abbrev pub Alike : (i k : ℕ) → Type 0
-  Alike i k = (valueAt s k ≡ valueAt s i) × (getD (s .assigned) k 0 ≡ getD (s .assigned) i 0) × (getD rows k 0 ≡ getD rows i 0)
+  Alike i k = (valueAt s k ≡ valueAt s i) × (assignedAt s k ≡ assignedAt s i) × (getD rows k 0 ≡ getD rows i 0)
 
   pub rest-all : pairIn s rows ≡ restFrom 0
   unfolding pairIn restFrom
@@ -60,11 +59,11 @@ module _ (s : Sources) (rows : List ℕ) where
 
   -- at one index value two sources conflict by their values and the row
   pub clash-at : (i t : ℕ) {answer : Bool} → valueAt s t ≡ valueAt s i
-      → clashOf (getD (s .assigned) i 0) (getD (s .assigned) t 0) (getD rows i 0) (originAt s t) ≡ answer → clashIn s rows i t ≡ answer
+      → clashOf (assignedAt s i) (assignedAt s t) (getD rows i 0) (originAt s t) ≡ answer → clashIn s rows i t ≡ answer
   clash-at i t same is = rw (eq-eqb (valueAt s i) (valueAt s t) (sym same)) is
 
   -- from one source of the index value to the next there is none to conflict with
-  pub free-link : (i t next : ℕ) → valueAt s t ≡ valueAt s i → NextOf s t next → (j : ℕ) → t < j → j < next → clashIn s rows i j ≡ false
+  free-link : (i t next : ℕ) → valueAt s t ≡ valueAt s i → NextOf s t next → (j : ℕ) → t < j → j < next → clashIn s rows i j ≡ false
   free-link i t next same link j above below = rw (ne-eqb (valueAt s i) (valueAt s j) (λ equal. link .between j above below (sym equal ∙ sym same)))
 
   -- one that does not conflict is passed over, and so are those of another index value
@@ -79,7 +78,7 @@ module _ (s : Sources) (rows : List ℕ) where
           side (yes before) = free j above before
           side (no past) = free-link i t next same link j (omega (arith, other, past)) below
 
-  pub free-alike : (i k : ℕ) → i < k → Alike i k → Free i (s .count) → Free k (s .count)
+  free-alike : (i k : ℕ) → i < k → Alike i k → Free i (s .count) → Free k (s .count)
   free-alike i k later alike free j above below = rw (alike .0, alike .1, alike .2) (free j (omega arith) below)
 
   -- the marks of the sources from i on: each that is marked conflicts with none
@@ -90,8 +89,8 @@ module _ (s : Sources) (rows : List ℕ) where
   abbrev pub Marked : (i : ℕ) → (clear : List Bool) → Type 0
   Marked i clear = (k : ℕ) → i < k → k < s .count → getD clear k false ≡ true → Free k (s .count) ⊎ Alike i k
 
-  pub cleared-first : (n : ℕ) → s .count ≤ n → Cleared 0 (replicate n false)
-  cleared-first n room k above inside marked = absurd (false≢true (sym (getD-replicate n k false false (omega arith)) ∙ marked))
+  pub cleared-first : (clear : List Bool) → ((k : ℕ) → k < s .count → getD clear k false ≡ false) → Cleared 0 clear
+  cleared-first clear unknown k above inside marked = absurd (false≢true (sym (unknown k inside) ∙ marked))
 
   pub marked-first : (i : ℕ) (clear : List Bool) → Cleared i clear → Marked i clear
   marked-first i clear cleared k above inside marked = inl (cleared k (omega arith) inside marked)
@@ -106,14 +105,14 @@ module _ (s : Sources) (rows : List ℕ) where
 
   -- a mark is put where it was, or where source t is like source i
   pub marked-put : (i t : ℕ) (clear : List Bool) → i < t → t < s .count → valueAt s t ≡ valueAt s i → Marked i clear
-      → Marked i (set clear t (alikeOf (getD clear t false) (getD (s .assigned) i 0) (getD (s .assigned) t 0) (getD rows i 0) (getD rows t 0)))
+      → Marked i (set clear t (alikeOf (getD clear t false) (assignedAt s i) (assignedAt s t) (getD rows i 0) (getD rows t 0)))
   marked-put i t clear later within same all k above inside marked = go (ℕ-discrete k t)
     where
       new : Bool
-      new = alikeOf (getD clear t false) (getD (s .assigned) i 0) (getD (s .assigned) t 0) (getD rows i 0) (getD rows t 0)
+      new = alikeOf (getD clear t false) (assignedAt s i) (assignedAt s t) (getD rows i 0) (getD rows t 0)
 
-      put : (known : Bool) → getD clear t false ≡ known → Dec (getD (s .assigned) i 0 ≡ getD (s .assigned) t 0) → Dec (getD rows i 0 ≡ getD rows t 0)
-          → alikeOf known (getD (s .assigned) i 0) (getD (s .assigned) t 0) (getD rows i 0) (getD rows t 0) ≡ true → Free t (s .count) ⊎ Alike i t
+      put : (known : Bool) → getD clear t false ≡ known → Dec (assignedAt s i ≡ assignedAt s t) → Dec (getD rows i 0 ≡ getD rows t 0)
+          → alikeOf known (assignedAt s i) (assignedAt s t) (getD rows i 0) (getD rows t 0) ≡ true → Free t (s .count) ⊎ Alike i t
       put true known values both is = all t later within known
       put false known (yes values) (yes both) is = inr (same, sym values, sym both)
       put false known (no values) both is = absurd (false≢true (sym (rw (ne-eqb _ _ values)) ∙ is))

@@ -19,12 +19,9 @@ use Rattle.paper.specs.Lemma.{sameDistance, leadsNearer, pathFrom}
 use Rattle.meaning.proofs.Lists.{find-in, find-same, keep-in, range-in}
 use Rattle.meaning.proofs.Walks.{Ranged}
 use Rattle.meaning.proofs.Distances.{entry-inside}
-use Rattle.meaning.proofs.Paths.{entry-is-least, path-found}
-use Rattle.terms.specs.declared.Edges.{Edges}
-use Rattle.terms.specs.Graph.{edgeAt, openAt, opened}
-use Rattle.reach.specs.Reached.{Ends, hopOf, reachedIn}
-use Rattle.reach.proofs.Words.{lent}
-use Rattle.lemma.specs.Steps.{hopAt, otherEnd, farEnd, nearerBy, nearerEdge, HopsOf}
+use Rattle.meaning.proofs.Paths.{path-found}
+use Rattle.reach.specs.Reached.{hopOf, reachedIn}
+use Rattle.lemma.specs.Steps.{EdgeTable, edgeAt, openAt, opened, Ends, hopAt, otherEnd, farEnd, nearerBy, nearerEdge, HopsOf, Walkable, PathOf}
 use Rattle.lemma.proofs.Ranges.{stored-below}
 
 -- the other end is an array term
@@ -39,13 +36,17 @@ far-end-in left right n a left-in right-in inside = first (eqb left a)
     first true = right-in
     first false = second (eqb right a)
 
-pub other-end-in : (e : Edges) (n a k : ℕ) → Ends e n → a < n → k < e .count → otherEnd e k a < n
-other-end-in e n a k ends inside numbered = far-end-in (getD (e .left) k 0) (getD (e .right) k 0) n a (ends .left k numbered) (ends .right k numbered) inside
+other-end-in : (e : EdgeTable) (x n a k : ℕ) → Ends e x n → a < n → k < e .count → otherEnd e x k a < n
+other-end-in e x n a k ends inside numbered = far-end-in (edgeAt e x k .left) (edgeAt e x k .right) n a (ends .left k numbered) (ends .right k numbered) inside
 
--- the choice asks of the edges no more than a function is lent
-pub nearer-lent : (e : Edges) (hops : List (List ℕ)) (x a goal : ℕ) → nearerEdge (lent e) hops x a goal ≡ nearerEdge e hops x a goal
-unfolding nearerEdge
-nearer-lent e hops x a goal = refl
+pub ends-most : (e : EdgeTable) (x n : ℕ) → Ends e x n → Ends e x 48
+ends-most e x n ends =
+    record {
+      edges = ends .edges;
+      arrays = omega arith;
+      left = λ k given. omega (arith, ends .left k given, ends .arrays);
+      right = λ k given. omega (arith, ends .right k given, ends .arrays);
+    }
 
 -- the first of what is kept and put through f, by one test of what was there
 find-kept : {A B : Type 0} (f : A → B) (kept : A → Bool) (test : B → Bool) (xs : List A)
@@ -87,7 +88,7 @@ no-step : {among walked : List Edge} {a c : ℕ} → Walk among a walked c → w
 no-step stay e = refl
 no-step (step first joined rest) e = absurd (nil≢cons (sym e))
 
-module _ (e : Edges) (x n goal : ℕ) where
+module _ (e : EdgeTable) (x n goal : ℕ) where
   -- the table of distances
   abbrev pub table : List (Option ℕ)
   table = near stepCost (opened e x) n goal n
@@ -96,34 +97,35 @@ module _ (e : Edges) (x n goal : ℕ) where
   pathOf bound a = pathFrom stepCost bound (opened e x) table a
 
   -- edge k is open and leads one step nearer, and the path goes on from its other end
-  pub record Onward (a d k : ℕ) : Type 0 where
+  record Onward (a d k : ℕ) : Type 0 where
     pub numbered : k < e .count
     pub open-to : openAt e x k ≡ true
     pub rest : ℕ
-    pub known : getD table (otherEnd e k a) none ≡ some rest
+    pub known : getD table (otherEnd e x k a) none ≡ some rest
     pub nearer : rest + 1 ≡ d
-    pub goes-on : (bound : ℕ) → pathOf (suc bound) a ≡ edgeAt e k ∷ pathOf bound (otherEnd e k a)
+    pub goes-on : (bound : ℕ) → pathOf (suc bound) a ≡ edgeAt e x k ∷ pathOf bound (otherEnd e x k a)
 
   -- on the way from an array term: the numbers of the edges walked so far, with the path from here, are the whole path
   pub record Walking (from a steps : ℕ) (walked : List ℕ) : Type 0 where
     pub distance : ℕ
     pub known : getD table a none ≡ some distance
     pub short : steps + distance < n
-    pub room : length walked ≡ 48
-    pub done : map (edgeAt e) (take steps walked) ++ pathOf (n - steps) a ≡ pathOf n from
-    pub numbered : (k : ℕ) → k < steps → getD walked k 0 < e .count
-    pub open-to : (k : ℕ) → k < steps → openAt e x (getD walked k 0) ≡ true
+    pub done : map (edgeAt e x) (take steps walked) ++ pathOf (n - steps) a ≡ pathOf n from
+    pub ways : Walkable e x walked steps
 
   pub walking-in : {from a steps : ℕ} {walked : List ℕ} → Walking from a steps walked → a < n
   walking-in way = entry-inside stepCost (opened e x) n goal n (way .known)
 
-  module _ (ends : Ends e n) where
+  module _ (ends : Ends e x n) where
     opened-ranged : Ranged n (opened e x)
     opened-ranged edge here =
-        let from = Memᴰ·of-map (edgeAt e) (keep (openAt e x) (range 0 (e .count))) here in
+        let from = Memᴰ·of-map (edgeAt e x) (keep (openAt e x) (range 0 (e .count))) here in
         let inside = range-in 0 (e .count) (keep-in (openAt e x) (range 0 (e .count)) (from .1) .0) .1 in
         let numbered : from .0 < e .count = omega (arith, inside) in
         subst (λ (one : Edge). (one .left < n) × (one .right < n)) (from .2) (ends .left (from .0) numbered, ends .right (from .0) numbered)
+
+    no-steps : (walked : List ℕ) → length walked ≡ 48 → Walkable e x walked 0
+    no-steps walked room = record { whole = room; numbered = λ k below. absurd (not-suc-le-zero below); open-to = λ k below. absurd (not-suc-le-zero below) }
 
     -- a distance is less than the number of array terms
     distance-less : (a d : ℕ) → getD table a none ≡ some d → d < n
@@ -131,7 +133,25 @@ module _ (e : Edges) (x n goal : ℕ) where
         let found = path-found stepCost (opened e x) n goal opened-ranged step-positive known in
         omega (arith, found .0 .total, found .1, cost-length (pathOf n a))
 
-    pub walking-start : (from : ℕ) (walked : List ℕ) → length walked ≡ 48 → reachedIn e n x goal from ≡ true → Walking from from 0 walked
+    -- where no edge leads nearer, the path ends
+    no-way : (a : ℕ) → find (leadsNearer stepCost table a) (opened e x) ≡ none → (bound : ℕ) → pathOf bound a ≡ []
+    no-way a nothing zero = refl
+    no-way a nothing (suc bound) = rw nothing
+
+    -- at the goal none does
+    arrived : (a d : ℕ) → getD table a none ≡ some d → a ≡ goal → (bound : ℕ) → pathOf bound a ≡ []
+    arrived a d known here bound = go (find (leadsNearer stepCost table a) (opened e x)) refl
+      where
+        go : (choice : Option Edge) → find (leadsNearer stepCost table a) (opened e x) ≡ choice → pathOf bound a ≡ []
+        go none nothing = no-way a nothing bound
+        go (some edge) found =
+            let path = path-found stepCost (opened e x) n goal opened-ranged step-positive known in
+            let shortest = path .0 .least [] (subst (λ (c : ℕ). Walk (opened e x) a [] c) here stay) in
+            let some-left : n ≡ suc (n - 1) = omega (arith, path .1) in
+            let longer : length (pathOf n a) ≡ suc (length (pathOf (n - 1) (Option·getD (across a edge) a))) = ap (λ (m : ℕ). length (pathOf m a)) some-left ∙ rw found in
+            absurd (omega (arith, path .0 .total, cost-length (pathOf n a), shortest, longer))
+
+    pub walking-start : (from : ℕ) (walked : List ℕ) → length walked ≡ 48 → reachedIn (opened e) n x goal from ≡ true → Walking from from 0 walked
     unfolding reachedIn
     walking-start from walked room reached = go (getD table from none) refl reached
       where
@@ -142,28 +162,36 @@ module _ (e : Edges) (x n goal : ℕ) where
               distance = d;
               known = known;
               short = omega (arith, distance-less from d known);
-              room = room;
               done = rw (sub-zero n);
-              numbered = λ k below. absurd (not-suc-le-zero below);
-              open-to = λ k below. absurd (not-suc-le-zero below);
+              ways = no-steps walked room;
             }
+
+    -- at the goal, what is walked is the path
+    pub walking-end : (from a steps : ℕ) (walked : List ℕ) → a ≡ goal → Walking from a steps walked → PathOf e x n from goal walked steps
+    walking-end from a steps walked here way =
+        let last = arrived a (way .distance) (way .known) here (n - steps) in
+        record {
+          walked = sym (append-nil (map (edgeAt e x) (take steps walked))) ∙ ap (λ (rest : List Edge). map (edgeAt e x) (take steps walked) ++ rest) (sym last) ∙ way .done;
+          short = omega (arith, way .short);
+          ways = way .ways;
+        }
 
     module _ (hops : List (List ℕ)) (hops-are : HopsOf e x n hops) (goal-in : goal < n) where
       nearer-same : (a d k : ℕ) → k < e .count → a < n → getD table a none ≡ some d → d < 256
-          → eqb (hopAt hops (otherEnd e k a) goal + 1) (hopAt hops a goal) ≡ leadsNearer stepCost table a (edgeAt e k)
-      nearer-same a d k numbered inside known small = rw (hops-are a goal inside goal-in, known) (go (across a (edgeAt e k)) refl)
+          → eqb (hopAt hops (otherEnd e x k a) goal + 1) (hopAt hops a goal) ≡ leadsNearer stepCost table a (edgeAt e x k)
+      nearer-same a d k numbered inside known small = rw (hops-are a goal inside goal-in, known) (go (across a (edgeAt e x k)) refl)
         where
           onward : (b : ℕ) → (there : Option ℕ) → getD table b none ≡ there
-              → eqb (hopOf there + 1) d ≡ sameDistance (mapOption (λ distance. stepCost (edgeAt e k .guard) + distance) there) (some d)
+              → eqb (hopOf there + 1) d ≡ sameDistance (mapOption (λ distance. stepCost (edgeAt e x k .guard) + distance) there) (some d)
           onward b none there = ne-eqb (255 + 1) d (λ same. omega (arith, same, small))
-          onward b (some d′) there = rw (step-one (edgeAt e k .guard)) (ap (λ (far : ℕ). eqb far d) (add-comm d′ 1))
+          onward b (some d′) there = rw (step-one (edgeAt e x k .guard)) (ap (λ (far : ℕ). eqb far d) (add-comm d′ 1))
 
-          go : (end : Option ℕ) → across a (edgeAt e k) ≡ end
+          go : (end : Option ℕ) → across a (edgeAt e x k) ≡ end
               → eqb (hopAt hops (Option·getD end a) goal + 1) d
-              ≡ sameDistance (bindOption end (λ to. mapOption (λ distance. stepCost (edgeAt e k .guard) + distance) (getD table to none))) (some d)
+              ≡ sameDistance (bindOption end (λ to. mapOption (λ distance. stepCost (edgeAt e x k .guard) + distance) (getD table to none))) (some d)
           go none joined = rw (hops-are a goal inside goal-in, known) (ne-eqb (d + 1) d (λ same. omega (arith, same)))
           go (some b) joined =
-              let within : b < n = subst (λ (end : Option ℕ). Option·getD end a < n) joined (other-end-in e n a k ends inside numbered) in
+              let within : b < n = subst (λ (end : Option ℕ). Option·getD end a < n) joined (other-end-in e x n a k ends inside numbered) in
               rw (hops-are b goal within goal-in) (onward b (getD table b none) refl)
 
       module _ (a d : ℕ) (known : getD table a none ≡ some d) (small : d < 256) where
@@ -171,10 +199,10 @@ module _ (e : Edges) (x n goal : ℕ) where
         inside = entry-inside stepCost (opened e x) n goal n known
 
         -- the code's choice is the paper's
-        chosen-same : find (leadsNearer stepCost table a) (opened e x) ≡ mapOption (edgeAt e) (find (nearerBy e hops x a goal) (range 0 (e .count)))
+        chosen-same : find (leadsNearer stepCost table a) (opened e x) ≡ mapOption (edgeAt e x) (find (nearerBy e hops x a goal) (range 0 (e .count)))
         chosen-same =
-            find-kept (edgeAt e) (openAt e x) (leadsNearer stepCost table a) (range 0 (e .count))
-            ∙ ap (mapOption (edgeAt e))
+            find-kept (edgeAt e x) (openAt e x) (leadsNearer stepCost table a) (range 0 (e .count))
+            ∙ ap (mapOption (edgeAt e x))
             (find-same (range 0 (e .count))
             (λ k here. ap (λ (b : Bool). cond (openAt e x k) b false) (sym (nearer-same a d k (omega (arith, range-in 0 (e .count) here .1)) inside known small))))
 
@@ -182,11 +210,11 @@ module _ (e : Edges) (x n goal : ℕ) where
         taken k found =
             let chosen = find-in (nearerBy e hops x a goal) (range 0 (e .count)) found in
             let numbered : k < e .count = omega (arith, range-in 0 (e .count) (chosen .0) .1) in
-            let passes = both (openAt e x k) (eqb (hopAt hops (otherEnd e k a) goal + 1) (hopAt hops a goal)) (chosen .1) in
-            let further = other-end-in e n a k ends inside numbered in
-            let nearer = eqb-true (hopAt hops (otherEnd e k a) goal + 1) (hopAt hops a goal) (passes .1) in
-            let sums : hopOf (getD table (otherEnd e k a) none) + 1 ≡ d = rw (← hops-are (otherEnd e k a) goal further goal-in) (nearer ∙ hops-are a goal inside goal-in ∙ ap hopOf known) in
-            let rest = at-distance (getD table (otherEnd e k a) none) refl sums in
+            let passes = both (openAt e x k) (eqb (hopAt hops (otherEnd e x k a) goal + 1) (hopAt hops a goal)) (chosen .1) in
+            let further = other-end-in e x n a k ends inside numbered in
+            let nearer = eqb-true (hopAt hops (otherEnd e x k a) goal + 1) (hopAt hops a goal) (passes .1) in
+            let sums : hopOf (getD table (otherEnd e x k a) none) + 1 ≡ d = rw (← hops-are (otherEnd e x k a) goal further goal-in) (nearer ∙ hops-are a goal inside goal-in ∙ ap hopOf known) in
+            let rest = at-distance (getD table (otherEnd e x k a) none) refl sums in
             record {
               numbered = numbered;
               open-to = passes .0;
@@ -196,17 +224,12 @@ module _ (e : Edges) (x n goal : ℕ) where
               goes-on = λ bound. rw (chosen-same, found);
             }
           where
-            at-distance : (there : Option ℕ) → getD table (otherEnd e k a) none ≡ there → hopOf there + 1 ≡ d
-                → (rest : ℕ) × (getD table (otherEnd e k a) none ≡ some rest) × (rest + 1 ≡ d)
+            at-distance : (there : Option ℕ) → getD table (otherEnd e x k a) none ≡ there → hopOf there + 1 ≡ d
+                → (rest : ℕ) × (getD table (otherEnd e x k a) none ≡ some rest) × (rest + 1 ≡ d)
             at-distance none there sums = absurd (omega (arith, sums, small))
             at-distance (some rest) there sums = (rest, there, sums)
 
-        -- where no edge leads nearer, the path ends
-        no-way : find (leadsNearer stepCost table a) (opened e x) ≡ none → (bound : ℕ) → pathOf bound a ≡ []
-        no-way nothing zero = refl
-        no-way nothing (suc bound) = rw nothing
-
-        -- away from the goal some edge leads nearer, and at the goal none does
+        -- away from the goal some edge leads nearer
         onward : (a ≡ goal → ⊥) → Onward a d (nearerEdge e hops x a goal)
         unfolding nearerEdge
         onward away = go (find (nearerBy e hops x a goal) (range 0 (e .count))) refl
@@ -214,45 +237,38 @@ module _ (e : Edges) (x n goal : ℕ) where
             go : (choice : Option ℕ) → find (nearerBy e hops x a goal) (range 0 (e .count)) ≡ choice → Onward a d (Option·getD choice (e .count))
             go none nothing =
                 let found = path-found stepCost (opened e x) n goal opened-ranged step-positive known in
-                absurd (away (no-step (found .0 .way) (no-way (chosen-same ∙ ap (mapOption (edgeAt e)) nothing) n)))
+                absurd (away (no-step (found .0 .way) (no-way a (chosen-same ∙ ap (mapOption (edgeAt e x)) nothing) n)))
             go (some k) found = taken k found
-
-        arrived : a ≡ goal → (bound : ℕ) → pathOf bound a ≡ []
-        arrived here bound = go (find (nearerBy e hops x a goal) (range 0 (e .count))) refl
-          where
-            go : (choice : Option ℕ) → find (nearerBy e hops x a goal) (range 0 (e .count)) ≡ choice → pathOf bound a ≡ []
-            go none nothing = no-way (chosen-same ∙ ap (mapOption (edgeAt e)) nothing) bound
-            go (some k) found =
-                let near-goal = entry-is-least stepCost (opened e x) n goal opened-ranged known .least [] (subst (λ (c : ℕ). Walk (opened e x) a [] c) here stay) in
-                absurd (omega (arith, near-goal, taken k found .nearer))
 
       -- one step further
       pub walking-on : (from a steps : ℕ) (walked : List ℕ) → n ≤ 48 → (a ≡ goal → ⊥) → Walking from a steps walked
-          → Walking from (otherEnd e (nearerEdge e hops x a goal) a) (steps + 1) (set walked steps (nearerEdge e hops x a goal))
+          → Walking from (otherEnd e x (nearerEdge e hops x a goal) a) (steps + 1) (set walked steps (nearerEdge e hops x a goal))
       walking-on from a steps walked few away way =
           let k = nearerEdge e hops x a goal in
           let next = onward a (way .distance) (way .known) (omega (arith, way .short)) away in
           let more : n - steps ≡ suc (n - (steps + 1)) = omega (arith, way .short) in
-          let fits : steps < length walked = omega (arith, way .short, way .room) in
-          let before = map (edgeAt e) (take steps walked) in
-          let after = pathOf (n - (steps + 1)) (otherEnd e k a) in
+          let fits : steps < length walked = omega (arith, way .short, way .ways .whole) in
+          let before = map (edgeAt e x) (take steps walked) in
+          let after = pathOf (n - (steps + 1)) (otherEnd e x k a) in
           let one-more : take (steps + 1) (set walked steps k) ≡ take steps walked ++ (k ∷ []) = rw (add-one steps) (take-suc-set walked steps k fits) in
-          let longer : map (edgeAt e) (take (steps + 1) (set walked steps k)) ++ after ≡ before ++ (edgeAt e k ∷ after) = rw (one-more, map-append (edgeAt e)) (append-snoc before (edgeAt e k) after) in
+          let longer : map (edgeAt e x) (take (steps + 1) (set walked steps k)) ++ after ≡ before ++ (edgeAt e x k ∷ after) = rw (one-more, map-append (edgeAt e x)) (append-snoc before (edgeAt e x k) after) in
           record {
             distance = next .rest;
             known = next .known;
             short = omega (arith, way .short, next .nearer);
-            room = length-set walked steps k ∙ way .room;
             done = longer ∙ ap (λ (rest : List Edge). before ++ rest) (sym (next .goes-on (n - (steps + 1))) ∙ ap (λ (m : ℕ). pathOf m a) (sym more)) ∙ way .done;
-            numbered = stored-below (λ i. i < e .count) walked steps k 0 fits (way .numbered) (next .numbered);
-            open-to = stored-below (λ i. openAt e x i ≡ true) walked steps k 0 fits (way .open-to) (next .open-to);
+            ways =
+                record {
+                  whole = length-set walked steps k ∙ way .ways .whole;
+                  numbered = stored-below (λ i. i < e .count) walked steps k 0 fits (way .ways .numbered) (next .numbered);
+                  open-to = stored-below (λ i. openAt e x i ≡ true) walked steps k 0 fits (way .ways .open-to) (next .open-to);
+                };
           }
 
       -- the edge that is taken stands in the table
       pub chosen-in : (from a steps : ℕ) (walked : List ℕ) → n ≤ 48 → (a ≡ goal → ⊥) → Walking from a steps walked → nearerEdge e hops x a goal < e .count
       chosen-in from a steps walked few away way = onward a (way .distance) (way .known) (omega (arith, way .short)) away .numbered
 
-      pub walking-end : (from a steps : ℕ) (walked : List ℕ) → n ≤ 48 → a ≡ goal → Walking from a steps walked → map (edgeAt e) (take steps walked) ≡ pathOf n from
-      walking-end from a steps walked few here way =
-          let last = arrived a (way .distance) (way .known) (omega (arith, way .short)) here (n - steps) in
-          sym (append-nil (map (edgeAt e) (take steps walked))) ∙ ap (λ (rest : List Edge). map (edgeAt e) (take steps walked) ++ rest) (sym last) ∙ way .done
+      -- and is open
+      pub chosen-open : (from a steps : ℕ) (walked : List ℕ) → n ≤ 48 → (a ≡ goal → ⊥) → Walking from a steps walked → openAt e x (nearerEdge e hops x a goal) ≡ true
+      chosen-open from a steps walked few away way = onward a (way .distance) (way .known) (omega (arith, way .short)) away .open-to

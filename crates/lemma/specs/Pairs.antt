@@ -1,14 +1,15 @@
 -- 01, The lemma, over the code's tables: when two sources conflict, and the pair that is taken.
 -- Assumes nothing.
 use Prim.Native.Nat.{ℕ, _<_, _≤_}
+use mathlib.Core.Path.{_≡_}
 use mathlib.Core.Bool.{Bool, true, false, cond}
 use mathlib.Core.List.{List, [], _∷_}
 use mathlib.Core.Option.{Option, none, some}
 use lib.Dec.{eqb}
-use lib.ListN.{getD}
+use lib.ListN.{length, getD}
+use Rattle.paper.specs.Sizes.{maxSources}
 use Rattle.paper.specs.Lists.{orElse, mapOption, find, range}
-use Rattle.terms.specs.declared.Sources.{Sources}
-use Rattle.reach.specs.Reached.{bit, originAt, valueAt, NextOf}
+use Rattle.reach.specs.Reached.{Sources, bit, originAt, valueAt, assignedAt, NextOf}
 use Rattle.lemma.specs.declared.Found.{Found}
 use Rattle.lemma.specs.declared.Found.the-variants.{Pair, Nothing}
 
@@ -28,7 +29,7 @@ alikeOf known one other row others = cond known true (cond (eqb one other) (eqb 
 -- "Two sources conflict if their index values are equal, their values differ, and the first reaches the origin of the second"
 abbrev pub clashIn : Sources → (rows : List ℕ) → (i j : ℕ) → Bool
 clashIn s rows i j =
-    cond (eqb (valueAt s i) (valueAt s j)) (clashOf (getD (s .assigned) i 0) (getD (s .assigned) j 0) (getD rows i 0) (originAt s j)) false
+    cond (eqb (valueAt s i) (valueAt s j)) (clashOf (assignedAt s i) (assignedAt s j) (getD rows i 0) (originAt s j)) false
 
 -- the first of a list of sources that clashes with a later one, and the first of those
 abbrev pub pairAmong : (clash : ℕ → ℕ → Bool) → List ℕ → Option Numbers
@@ -44,17 +45,16 @@ abbrev pub foundOf : Found → Option Numbers
 foundOf (Pair i j) = some (record { first = i; later = j })
 foundOf Nothing = none
 
--- the sources that stand in columns
-abbrev pub sourcesBy : (origins values assigned : List ℕ) (count : ℕ) → Sources
-sourcesBy origins values assigned count = record { origin = origins; index = []; value = []; «index_value» = values; assigned = assigned; count = count }
-
--- the columns are within their bounds, and each link leads on
-pub record Followed (origins : List ℕ) (count : ℕ) (links : List ℕ) : Type 0 where
-  pub sources : count ≤ 304
-  pub origin : (k : ℕ) → k < count → getD origins k 0 < 48
-  pub later : (k : ℕ) → k < count → k < getD links k 0
-  pub within : (k : ℕ) → k < count → getD links k 0 ≤ count
-
 -- each source is linked to the next of its index value
 abbrev pub Linked : Sources → (links : List ℕ) → Type 0
 Linked s links = (k : ℕ) → k < s .count → NextOf s k (getD links k 0)
+
+-- the tables are within their bounds, each source is linked, and none is known yet to conflict with nothing
+pub record Searchable (s : Sources) (rows links : List ℕ) (clear : List Bool) : Type 0 where
+  pub sources : s .count ≤ maxSources
+  pub origin : (k : ℕ) → k < s .count → originAt s k < 48
+  pub linked : Linked s links
+  pub rows-long : s .count ≤ length rows
+  pub links-long : s .count ≤ length links
+  pub clear-long : s .count ≤ length clear
+  pub unknown : (k : ℕ) → k < s .count → getD clear k false ≡ false

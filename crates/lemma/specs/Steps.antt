@@ -1,71 +1,119 @@
 -- 01, The lemma, over the code's tables: which edge a path takes next, and the edges that a path names.
 -- Assumes nothing.
-use Prim.Native.Nat.{ℕ, _+_, _<_}
+use Prim.Native.Nat.{ℕ, _+_, _/_, _%_, _<_, _≤_}
 use mathlib.Core.Path.{_≡_}
-use mathlib.Core.Bool.{Bool, true, false, cond, not}
-use mathlib.Core.List.{List, [], map}
+use mathlib.Core.Bool.{Bool, true, false, cond}
+use mathlib.Core.List.{List, [], _∷_, map}
 use mathlib.Core.Option.{none, Option·getD}
 use lib.Dec.{eqb}
 use lib.ListN.{length, getD, take}
-use Rattle.paper.specs.Lists.{find, range}
+use Rattle.paper.specs.Sizes.{maxArrays, maxEdges}
+use Rattle.paper.specs.Lists.{keep, find, range}
 use Rattle.paper.specs.Edges.{Guard, Edge}
 use Rattle.paper.specs.Reach.{across, near, stepCost}
 use Rattle.paper.specs.Lemma.{pathFrom}
-use Rattle.terms.specs.declared.Edges.{Edges}
-use Rattle.terms.specs.Graph.{edgeAt, openAt, opened}
-use Rattle.reach.specs.Reached.{Ends, hopOf, reachedIn}
-use Rattle.lemma.specs.declared.Path.{Path}
+use Rattle.terms.specs.Graph.{openIn}
+use Rattle.reach.specs.Reached.{hopOf, reachedIn}
+
+-- the rows of edges that are lent, with the guess that opens them
+pub record EdgeTable : Type 0 where
+  pub values : List ℕ
+  pub truths : List ℕ
+  pub rows : List ℕ
+  pub count : ℕ
+
+abbrev pub tableOf : (values truths rows : List ℕ) (count : ℕ) → EdgeTable
+tableOf values truths rows count = record { values = values; truths = truths; rows = rows; count = count }
+
+abbrev pub waysAt : EdgeTable → (x k : ℕ) → List Edge
+waysAt e x k = openIn (e .values) (e .truths) x (getD (e .rows) k 0)
+
+abbrev pub isThere : List Edge → Bool
+isThere [] = false
+isThere (edge ∷ edges) = true
+
+abbrev pub firstOf : List Edge → Edge
+firstOf [] = record { left = 0; right = 0; guard = Guard.differ 0 }
+firstOf (edge ∷ edges) = edge
+
+-- is row k open to index value x, and its edge that is
+abbrev pub openAt : EdgeTable → (x k : ℕ) → Bool
+openAt e x k = isThere (waysAt e x k)
+
+abbrev pub edgeAt : EdgeTable → (x k : ℕ) → Edge
+edgeAt e x k = firstOf (waysAt e x k)
+
+abbrev pub opened : EdgeTable → (x : ℕ) → List Edge
+opened e x = map (edgeAt e x) (keep (openAt e x) (range 0 (e .count)))
+
+-- the tables are within their bounds, and every end is an array term
+pub record Ends (e : EdgeTable) (x n : ℕ) : Type 0 where
+  pub edges : e .count ≤ maxEdges
+  pub arrays : n ≤ maxArrays
+  pub left : (k : ℕ) → k < e .count → edgeAt e x k .left < n
+  pub right : (k : ℕ) → k < e .count → edgeAt e x k .right < n
 
 -- the hop count from a to b
 abbrev pub hopAt : (hops : List (List ℕ)) → (a b : ℕ) → ℕ
 hopAt hops a b = getD (getD hops a []) b 0
 
 -- the other end of edge k, and a itself where the edge does not join it
-abbrev pub otherEnd : Edges → (k a : ℕ) → ℕ
-otherEnd e k a = Option·getD (across a (edgeAt e k)) a
+abbrev pub otherEnd : EdgeTable → (x k a : ℕ) → ℕ
+otherEnd e x k a = Option·getD (across a (edgeAt e x k)) a
 
 -- the same of the two ends alone
 abbrev pub farEnd : (left right a : ℕ) → ℕ
 farEnd left right a = Option·getD (across a (record { left = left; right = right; guard = Guard.differ 0 })) a
 
--- is an edge open to x, and is its other end one step nearer to the goal than a?
-abbrev pub nearerOver : (left right guard closed : ℕ) → (hops : List (List ℕ)) → (x a goal : ℕ) → Bool
-nearerOver left right guard closed hops x a goal =
-    cond (cond (eqb guard 0) (not (eqb closed x)) true) (eqb (hopAt hops (farEnd left right a) goal + 1) (hopAt hops a goal)) false
+-- is a way open, and is its other end one step nearer to the goal than a?
+abbrev pub nearerOver : (opens : Bool) → (left right : ℕ) → (hops : List (List ℕ)) → (a goal : ℕ) → Bool
+nearerOver opens left right hops a goal = cond opens (eqb (hopAt hops (farEnd left right a) goal + 1) (hopAt hops a goal)) false
+
+-- the same of the edges of a row, of which one is open or none; and the ends of that one are array terms
+abbrev pub nearerIn : List Edge → (hops : List (List ℕ)) → (a goal : ℕ) → Bool
+nearerIn edges hops a goal = nearerOver (isThere edges) (firstOf edges .left) (firstOf edges .right) hops a goal
+
+abbrev pub RowWithin : List Edge → Type 0
+RowWithin edges = (firstOf edges .left < maxArrays) × (firstOf edges .right < maxArrays)
+
+-- can a row join array term a?
+abbrev pub touchesIn : (row a : ℕ) → Bool
+touchesIn row a = cond (eqb (row % 64) a) true (cond (eqb (row / 64 % 64) a) true (eqb (row / 4096 % 64) a))
 
 -- is edge k open to x, and is its other end one step nearer to the goal than a?
-abbrev pub nearerBy : Edges → (hops : List (List ℕ)) → (x a goal k : ℕ) → Bool
-nearerBy e hops x a goal k = cond (openAt e x k) (eqb (hopAt hops (otherEnd e k a) goal + 1) (hopAt hops a goal)) false
+abbrev pub nearerBy : EdgeTable → (hops : List (List ℕ)) → (x a goal k : ℕ) → Bool
+nearerBy e hops x a goal k = cond (openAt e x k) (eqb (hopAt hops (otherEnd e x k a) goal + 1) (hopAt hops a goal)) false
 
 -- "the lowest-numbered open edge that leads one step nearer", or the number of edges where there is none
-unfoldable pub nearerEdge : Edges → (hops : List (List ℕ)) → (x a goal : ℕ) → ℕ
+unfoldable pub nearerEdge : EdgeTable → (hops : List (List ℕ)) → (x a goal : ℕ) → ℕ
 nearerEdge e hops x a goal = Option·getD (find (nearerBy e hops x a goal) (range 0 (e .count))) (e .count)
 
 -- the hop counts are the distances over the edges open to x
-abbrev pub HopsOf : Edges → (x n : ℕ) → (hops : List (List ℕ)) → Type 0
+abbrev pub HopsOf : EdgeTable → (x n : ℕ) → (hops : List (List ℕ)) → Type 0
 HopsOf e x n hops =
     (a b : ℕ) → a < n → b < n → hopAt hops a b ≡ hopOf (getD (near stepCost (opened e x) n b n) a none)
 
 -- what the path is asked of: tables within their bounds, their hop counts, and a goal that is reached
-pub record Asked (e : Edges) (x n from goal : ℕ) (hops : List (List ℕ)) : Type 0 where
-  pub ends : Ends e n
+pub record Asked (e : EdgeTable) (x n from goal : ℕ) (hops : List (List ℕ)) : Type 0 where
+  pub ends : Ends e x n
   pub from-in : from < n
   pub goal-in : goal < n
   pub hops-are : HopsOf e x n hops
-  pub reached : reachedIn e n x goal from ≡ true
+  pub reached : reachedIn (opened e) n x goal from ≡ true
 
--- the numbers of the edges that a path walks, in order
-abbrev pub numbersOf : Path → List ℕ
-numbersOf path = take (path .count) (path .edges)
+-- the edges that a path walks, in order: its first cells hold their numbers
+abbrev pub walkedBy : EdgeTable → (x : ℕ) (path : List ℕ) (steps : ℕ) → List Edge
+walkedBy e x path steps = map (edgeAt e x) (take steps path)
 
-abbrev pub walkedBy : Edges → Path → List Edge
-walkedBy e path = map (edgeAt e) (numbersOf path)
+-- the edges of the path are in the table, and open
+pub record Walkable (e : EdgeTable) (x : ℕ) (path : List ℕ) (steps : ℕ) : Type 0 where
+  pub whole : length path ≡ maxArrays
+  pub numbered : (k : ℕ) → k < steps → getD path k 0 < e .count
+  pub open-to : (k : ℕ) → k < steps → openAt e x (getD path k 0) ≡ true
 
 -- "The path is a shortest walk from s's origin to t's origin; at each step take the lowest-numbered open edge that leads one step
 -- nearer": over the edges of the table that are open, and fewer than there are array terms
-pub record PathOf (e : Edges) (x n from goal : ℕ) (path : Path) : Type 0 where
-  pub walked : walkedBy e path ≡ pathFrom stepCost n (opened e x) (near stepCost (opened e x) n goal n) from
-  pub short : path .count < n
-  pub whole : length (path .edges) ≡ 48
-  pub numbered : (k : ℕ) → k < path .count → getD (path .edges) k 0 < e .count
-  pub open-to : (k : ℕ) → k < path .count → openAt e x (getD (path .edges) k 0) ≡ true
+pub record PathOf (e : EdgeTable) (x n from goal : ℕ) (path : List ℕ) (steps : ℕ) : Type 0 where
+  pub walked : walkedBy e x path steps ≡ pathFrom stepCost n (opened e x) (near stepCost (opened e x) n goal n) from
+  pub short : steps < n
+  pub ways : Walkable e x path steps

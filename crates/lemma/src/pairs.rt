@@ -1,14 +1,19 @@
 // The conflicting pair (01, The lemma): the first of the sources that conflicts with a later one, and the first of those.
 use crate::Found;
+use paper::MAX_BASES;
+use paper::MAX_SOURCES;
+use terms::graph::assigned_value;
+use terms::graph::origin_of;
 ghost use mathlib.Core.Path.{_≡_};
 ghost use mathlib.Core.Bool.{cond};
-ghost use Prim.Native.Nat.{ℕ, _<_};
-ghost use mathlib.Core.List.{List};
-ghost use Rattle.lemma.specs.Pairs.{clashOf, alikeOf, pairIn, foundOf, sourcesBy, Followed, Linked};
+ghost use Prim.Native.Nat.{_<_};
+ghost use Rattle.paper.specs.Sizes.{maxArrays};
+ghost use Rattle.reach.specs.Reached.{sourcesOf};
+ghost use Rattle.lemma.specs.Pairs.{clashOf, alikeOf, pairIn, foundOf, Searchable};
 
 // "their values differ, and the first reaches the origin of the second"
-fn clashes(one: u64, other: u64, row: u64, origin: u8) -> bool
-    requires { ⌜ origin < 48 ⌝ }
+fn clashes(one: u64, other: u64, row: u64, origin: usize) -> bool
+    requires { ⌜ origin < maxArrays ⌝ }
     ensures { λ r. ⌜ r ≡ clashOf one other row origin ⌝ }
 {
     if one == other {
@@ -42,31 +47,34 @@ fn first_tried(known: bool, next: u16, count: usize) -> usize
 
 // "the least first source s that stands in a pair with a later one, and with it the least later source t". Only sources of one index
 // value conflict, so the later ones are taken along the links. A source with the value and the row of an earlier one that conflicts
-// with none conflicts with none either, and is not tried again. Index values are not read: whatever they are by which the sources are
-// linked, the pair is the paper's.
+// with none conflicts with none either, and is not tried again.
 pub fn first_pair<'a>(
-    origins: &'a [u8; 304],
-    assigned: &'a [u64; 304],
+    values: &'a [u64; MAX_BASES],
+    sources: &'a [u32; MAX_SOURCES],
     count: usize,
-    rows: &'a [u64; 304],
-    next: &'a [u16; 304],
+    rows: &'a [u64],
+    next: &'a [u16],
+    clear: &mut [bool],
 ) -> Found
-    requires { ⌜ Followed (now origins) count (now next) ⌝ }
-    ensures { λ r. ⌜ ((values : List ℕ) → Linked (sourcesBy (now (origins .entry)) values (now (assigned .entry)) count) (now (next .entry)) → foundOf r ≡ pairIn (sourcesBy (now (origins .entry)) values (now (assigned .entry)) count) (now (rows .entry))) ⌝ }
+    requires { ⌜ Searchable (sourcesOf (now values) (now sources) count) (now rows) (now next) (now clear) ⌝ }
+    ensures { λ r. ⌜ foundOf r ≡ pairIn (sourcesOf (now (values .entry)) (now (sources .entry)) count) (now (rows .entry)) ⌝ }
 {
     let mut found = Found::Nothing;
-    let mut clear = [false; 304];
     let mut s = 0;
     'first: while s < count {
         let row = reach::row(rows, s);
-        let value = assigned[s];
+        let source = sources[s];
+        let value = assigned_value(values, source);
         let mut t = first_tried(clear[s], next[s], count);
         while t < count {
-            if clashes(value, assigned[t], row, origins[t]) {
+            let later = sources[t];
+            let other = assigned_value(values, later);
+            let origin = origin_of(later);
+            if clashes(value, other, row, origin) {
                 found = Found::Pair(s, t);
                 break 'first;
             }
-            clear[t] = alike(clear[t], value, assigned[t], row, reach::row(rows, t));
+            clear[t] = alike(clear[t], value, other, row, reach::row(rows, t));
             t = next[t] as usize;
         }
         s += 1;

@@ -1,27 +1,25 @@
 // The path (01, The lemma): a shortest walk, found by comparing hop counts.
-use crate::Path;
-use terms::Edges;
+use paper::MAX_ARRAYS;
+use paper::MAX_BASES;
+use paper::MAX_BOOLEANS;
+use paper::MAX_EDGES;
+use terms::graph::left_of;
+use terms::graph::open_way;
+use terms::graph::other_of;
+use terms::graph::right_of;
 ghost use mathlib.Core.Path.{_≡_};
-ghost use mathlib.Core.Bool.{true, not, cond};
+ghost use mathlib.Core.Bool.{true};
 ghost use Prim.Native.Nat.{_+_, _<_};
 ghost use lib.Dec.{eqb};
-ghost use Rattle.reach.specs.Reached.{Ends};
-ghost use Rattle.reach.specs.Steps.{edgesOf};
-ghost use Rattle.lemma.specs.Steps.{farEnd, nearerOver, nearerEdge, Asked, PathOf};
-
-// "open to index value v if the write index has another assigned value"; every other edge of the table is open
-fn is_open(guard: u8, closed: u64, x: u64) -> bool
-    ensures { λ r. ⌜ r ≡ cond (eqb guard 0) (not (eqb closed x)) true ⌝ }
-{
-    if guard == 0 { closed != x } else { true }
-}
+ghost use lib.ListN.{length};
+ghost use Rattle.paper.specs.Sizes.{maxArrays};
+ghost use Rattle.terms.specs.Graph.{openIn};
+ghost use Rattle.lemma.specs.Steps.{tableOf, Ends, farEnd, nearerOver, nearerEdge, Asked, PathOf, RowWithin, touchesIn, nearerIn};
 
 // "An edge can be walked both ways": the other end of an edge, or a itself where the edge does not join it.
-fn other_end(left: u8, right: u8, a: usize) -> usize
-    ensures { λ r. ⌜ r ≡ farEnd left right a ⌝ }
+fn other_end(one: usize, other: usize, a: usize) -> usize
+    ensures { λ r. ⌜ r ≡ farEnd one other a ⌝ }
 {
-    let one = left as usize;
-    let other = right as usize;
     if one == a {
         other
     } else if other == a {
@@ -39,21 +37,19 @@ fn one_less(onward: u8, away: u8) -> bool
     through == away as usize
 }
 
-// Is an edge open, and does it lead one step nearer?
+// Is a way open, and does it lead one step nearer?
 fn leads_nearer(
-    left: u8,
-    right: u8,
-    guard: u8,
-    closed: u64,
-    hops: &[[u8; 48]; 48],
-    x: u64,
+    opens: bool,
+    left: usize,
+    right: usize,
+    hops: &[[u8; MAX_ARRAYS]; MAX_ARRAYS],
     a: usize,
     goal: usize,
 ) -> bool
-    requires { ⌜ (left < 48) × (right < 48) × (a < 48) × (goal < 48) ⌝ }
-    ensures { λ r. ⌜ r ≡ nearerOver left right guard closed (now (hops .entry)) x a goal ⌝ }
+    requires { ⌜ (opens ≡ true → (left < maxArrays) × (right < maxArrays)) × (a < maxArrays) × (goal < maxArrays) ⌝ }
+    ensures { λ r. ⌜ r ≡ nearerOver opens left right (now (hops .entry)) a goal ⌝ }
 {
-    if is_open(guard, closed, x) {
+    if opens {
         let b = other_end(left, right, a);
         one_less(hops[b][goal], hops[a][goal])
     } else {
@@ -61,24 +57,63 @@ fn leads_nearer(
     }
 }
 
+// Can a row join the array term at all? Most cannot, and need not be opened.
+fn touches(row: u32, a: usize) -> bool
+    ensures { λ r. ⌜ r ≡ touchesIn row a ⌝ }
+{
+    let left = left_of(row);
+    if left == a {
+        return true;
+    }
+    let right = right_of(row);
+    if right == a {
+        return true;
+    }
+    let other = other_of(row);
+    other == a
+}
+
+// Is a row open, and does it lead one step nearer?
+fn row_leads<'a>(
+    values: &'a [u64; MAX_BASES],
+    truths: &'a [u8; MAX_BOOLEANS],
+    x: u64,
+    row: u32,
+    hops: &'a [[u8; MAX_ARRAYS]; MAX_ARRAYS],
+    a: usize,
+    goal: usize,
+) -> bool
+    requires { ⌜ RowWithin (openIn (now values) (now truths) x row) × (a < maxArrays) × (goal < maxArrays) ⌝ }
+    ensures { λ r. ⌜ r ≡ nearerIn (openIn (now (values .entry)) (now (truths .entry)) x row) (now (hops .entry)) a goal ⌝ }
+{
+    if touches(row, a) {
+        let way = open_way(values, truths, x, row);
+        let opens = way.open;
+        let left = way.left;
+        let right = way.right;
+        return leads_nearer(opens, left, right, hops, a, goal);
+    }
+    false
+}
+
 // "the lowest-numbered open edge that leads one step nearer", or the number of edges where there is none
 fn nearer_edge<'a>(
-    left: &'a [u8; 112],
-    right: &'a [u8; 112],
-    guard: &'a [u8; 112],
-    closed: &'a [u64; 112],
+    values: &'a [u64; MAX_BASES],
+    truths: &'a [u8; MAX_BOOLEANS],
+    edges: &'a [u32; MAX_EDGES],
     count: usize,
-    hops: &'a [[u8; 48]; 48],
+    hops: &'a [[u8; MAX_ARRAYS]; MAX_ARRAYS],
     x: u64,
     a: usize,
     goal: usize,
 ) -> usize
-    requires { ⌜ Ends (edgesOf (now left) (now right) (now guard) (now closed) count) 48 × (a < 48) × (goal < 48) ⌝ }
-    ensures { λ r. ⌜ r ≡ nearerEdge (edgesOf (now (left .entry)) (now (right .entry)) (now (guard .entry)) (now (closed .entry)) count) (now (hops .entry)) x a goal ⌝ }
+    requires { ⌜ Ends (tableOf (now values) (now truths) (now edges) count) x maxArrays × (a < maxArrays) × (goal < maxArrays) ⌝ }
+    ensures { λ r. ⌜ r ≡ nearerEdge (tableOf (now (values .entry)) (now (truths .entry)) (now (edges .entry)) count) (now (hops .entry)) x a goal ⌝ }
 {
     let mut k = 0;
     while k < count {
-        if leads_nearer(left[k], right[k], guard[k], closed[k], hops, x, a, goal) {
+        let row = edges[k];
+        if row_leads(values, truths, x, row, hops, a, goal) {
             return k;
         }
         k += 1;
@@ -87,39 +122,33 @@ fn nearer_edge<'a>(
 }
 
 // "The path is a shortest walk from s's origin to t's origin; at each step take the lowest-numbered open edge that leads one step nearer."
-pub fn shortest_path(
-    edges: Edges,
-    hops: &[[u8; 48]; 48],
+// Puts the edges' numbers into the path, and answers how many steps it has.
+pub fn shortest_path<'a>(
+    values: &'a [u64; MAX_BASES],
+    truths: &'a [u8; MAX_BOOLEANS],
+    edges: &'a [u32; MAX_EDGES],
+    ways: usize,
+    hops: &'a [[u8; MAX_ARRAYS]; MAX_ARRAYS],
     x: u64,
     arrays: usize,
     from: usize,
     goal: usize,
-) -> Path
-    requires { ⌜ Asked edges x arrays from goal (now hops) ⌝ }
-    ensures { λ r. ⌜ PathOf edges x arrays from goal r ⌝ }
+    path: &mut [u8; MAX_ARRAYS],
+) -> usize
+    requires { ⌜ Asked (tableOf (now values) (now truths) (now edges) ways) x arrays from goal (now hops) × (length (now path) ≡ maxArrays) ⌝ }
+    ensures { λ r. ⌜ PathOf (tableOf (now (values .entry)) (now (truths .entry)) (now (edges .entry)) ways) x arrays from goal (now (path .exit)) r ⌝ }
 {
-    let edge_count = edges.count;
-    let mut walked = [0u8; 48];
-    let mut count = 0;
+    let mut steps = 0;
     let mut a = from;
     while a != goal {
-        let k = nearer_edge(
-            &edges.left,
-            &edges.right,
-            &edges.guard,
-            &edges.closed,
-            edge_count,
-            hops,
-            x,
-            a,
-            goal,
-        );
-        walked[count] = k as u8;
-        count += 1;
-        a = other_end(edges.left[k], edges.right[k], a);
+        let k = nearer_edge(values, truths, edges, ways, hops, x, a, goal);
+        path[steps] = k as u8;
+        steps += 1;
+        let row = edges[k];
+        let way = open_way(values, truths, x, row);
+        let left = way.left;
+        let right = way.right;
+        a = other_end(left, right, a);
     }
-    Path {
-        edges: walked,
-        count,
-    }
+    steps
 }

@@ -1,6 +1,7 @@
 // The lookup program: one query on standard input, the cell in the file `cell.txt`, and its value on standard output.
 ghost use Prim.Native.Nat.{_≤_};
 use checker::Looked;
+use paper::NUMBERS;
 use print::PAGE;
 use print::QUERY_ROOM;
 
@@ -8,9 +9,6 @@ use print::QUERY_ROOM;
 const ROOM: usize = 22;
 
 const DIGITS: usize = 10;
-
-// Numbers are those below 2^32.
-const NUMBERS: u64 = 4294967296;
 
 // The cell that is looked up.
 struct Cell {

@@ -1,30 +1,33 @@
 -- Answers come. With the room that always suffices an accepted query is answered; with any other room the answer is the same, or it is 10
 -- and the answer is longer than the room. And what a lookup or the clause writer refuses by 12 and 11.
 -- Assumes nothing.
-use Prim.Native.Nat.{ℕ, _<_, _≤_, _^_}
+use Prim.Native.Nat.{ℕ, zero, suc, _<_, _≤_, _^_}
 use native.Mathlib.Nat.{le-refl, le-of-lt, lt-of-lt-of-le, pow-le-pow-right}
 use native.Mathlib.Omega.{arith}
 use mathlib.Core.Path.{_≡_, refl, sym, ap, _∙_}
 use mathlib.Core.Logic.{_⊎_, inl, inr, ⊎-elim}
 use mathlib.Core.Bool.{Bool, true, false, cond}
-use mathlib.Core.List.{List, []}
+use mathlib.Core.List.{List, [], _∷_}
 use mathlib.Core.Option.{Option, none, some}
-use borrow.Author.Tests.{le-leb, ne-eqb}
-use lib.Dec.{eqb, leb}
+use borrow.Author.Tests.{le-leb, lt-leb, le-ltb, ne-eqb}
+use lib.Dec.{eqb, leb, ltb}
 use lib.ListN.{length}
+use Rattle.paper.specs.Lists.{isSome, Test, _refuses_, firstMet, unlessRefused}
 use Rattle.paper.specs.Fields.{array}
 use Rattle.paper.specs.Terms.{given, Query}
 use Rattle.paper.specs.Interpretations.{Interpretation, Consistent}
 use Rattle.paper.specs.Load.{Loaded, load}
 use Rattle.paper.specs.Conflict.{Pair}
 use Rattle.paper.specs.Lemma.{lemmaBytes}
+use Rattle.paper.specs.Cells.{Cell, cells}
 use Rattle.paper.specs.Clauses.{run}
-use Rattle.paper.specs.Answers.{Verdict, Checked, checkRefused, check, lookRefused, look, Written, writeRefused, writeClauses}
+use Rattle.paper.specs.Answers.{Verdict, Checked, checkRefused, check, lookRefused, look, listRefused, list, Written, writeRefused, writeClauses}
 use Rattle.meaning.proofs.Built.{AreBytes}
 use Rattle.meaning.proofs.Accepted.{accepted}
 use Rattle.meaning.proofs.Whole.{guessOf, pairOf, pairsOf, lemmaOf}
 use Rattle.meaning.proofs.Called.{check-none, check-some, inConflict, write-none, write-some, clausesAre, written}
-use Rattle.meaning.proofs.Sources.{arrays-bound}
+use Rattle.meaning.proofs.Sources.{arrays-bound, sources-bound}
+use Rattle.meaning.proofs.Cells.{cells-few}
 use Rattle.meaning.proofs.Memories.{interprets-same}
 use Rattle.meaning.proofs.Refusals.{refusals}
 use Rattle.meaning.proofs.Verdict.{numbered, fits-none, unfit-some}
@@ -41,7 +44,7 @@ settle {A} at measure answer refused room large fits by = go (by large) (by room
         → ((room < measure (at large)) × (at room ≡ refused)) ⊎ ((measure (at large) ≤ room) × (at room ≡ at large))
     go (inr (long, is)) one = absurd (omega arith)
     go (inl (there, is)) (inl (short, same)) = inr (rw is short, same ∙ sym is)
-    go (inl (there, is)) (inr (long, refuses)) = inl (rw is long, refuses)
+    go (inl (there, is)) (inr (long, refused-is)) = inl (rw is long, refused-is)
 
 -- an answer that is no refusal, with the paper's pairs
 abbrev pub IsAnswered : Query → Checked → Type 0
@@ -106,6 +109,38 @@ module _ (w : ℕ) (bytes : List ℕ) (query : Query) (are-bytes : AreBytes byte
   look-nowhere consistent a x (inl no-array) = rw (loaded, fits-none (accepted w bytes query are-bytes loaded) consistent, le-leb (given array (query .terms)) a no-array)
   look-nowhere consistent a x (inr no-index) =
       rw (loaded, fits-none (accepted w bytes query are-bytes loaded) consistent, le-leb (2 ^ w) x no-index, either-way (leb (given array (query .terms)) a) 11)
+
+  -- the cells: 12 in a conflict, 11 of no array, and with room for 302 all of them
+  pub list-unfit : (Consistent w query → ⊥) → (a room : ℕ) → list w bytes a room ≡ listRefused 12 0
+  unfolding list
+  list-unfit unfit a room = let (pair, found) = unfit-some (accepted w bytes query are-bytes loaded) unfit in rw (loaded, found)
+
+  pub list-nowhere : Consistent w query → (a room : ℕ) → given array (query .terms) ≤ a → list w bytes a room ≡ listRefused 11 0
+  unfolding list
+  list-nowhere consistent a room no-array = rw (loaded, fits-none (accepted w bytes query are-bytes loaded) consistent, le-leb (given array (query .terms)) a no-array)
+
+  pub list-answered : Consistent w query → (a room : ℕ) → a < given array (query .terms) → 302 ≤ room → list w bytes a room ≡ record { refusal = 0; offset = 0; listed = cells (query .terms) (guessOf query) a }
+  unfolding list
+  list-answered consistent a room inside fits =
+      let ok = accepted w bytes query are-bytes loaded in
+      let few : length (cells (query .terms) (guessOf query) a) ≤ room = omega (arith, cells-few (query .terms) (guessOf query) a, sources-bound ok) in
+      rw (loaded, fits-none ok consistent, lt-leb (given array (query .terms)) a inside, le-ltb room (length (cells (query .terms) (guessOf query) a)) few)
+
+  -- an answer that is no refusal is all of them
+  pub list-all : (a room : ℕ) → list w bytes a room .refusal ≡ 0 → list w bytes a room .listed ≡ cells (query .terms) (guessOf query) a
+  unfolding list
+  list-all a room = rw loaded (λ accepts. go (firstMet tests) accepts)
+    where
+      all-cells : List Cell
+      all-cells = cells (query .terms) (guessOf query) a
+
+      tests : List Test
+      tests = (isSome (pairOf query) refuses 12) ∷ (leb (given array (query .terms)) a refuses 11) ∷ (ltb room (length all-cells) refuses 10) ∷ []
+
+      go : (n : ℕ) → unlessRefused n (λ (refusal : ℕ). listRefused refusal 0) (record { refusal = 0; offset = 0; listed = all-cells }) .refusal ≡ 0
+          → unlessRefused n (λ (refusal : ℕ). listRefused refusal 0) (record { refusal = 0; offset = 0; listed = all-cells }) .listed ≡ all-cells
+      go zero accepts = refl
+      go (suc n) accepts = absurd (omega (arith, accepts))
 
 -- with any two rooms for the clauses, of which one holds 12,625 numbers
 pub clauses-by-room : (bytes : List ℕ) (query : Query) → AreBytes bytes → load 32 bytes ≡ Loaded.accepted query → (room large : ℕ) → 12625 ≤ large

@@ -1,14 +1,14 @@
 -- The bounds that 01 states: pairs, literals, bytes and numbers.
 -- Assumes nothing.
-use Prim.Native.Nat.{ℕ, zero, suc, _+_, _*_, _<_, _≤_}
-use native.Mathlib.Nat.{le-trans, mul-le-mul}
+use Prim.Native.Nat.{ℕ, suc, _+_, _*_, _<_, _≤_}
+use native.Mathlib.Nat.{mul-le-mul}
 use native.Mathlib.Omega.{arith}
-use mathlib.Core.Path.{_≡_, refl, sym, ap, _∙_, subst}
+use mathlib.Core.Path.{_≡_, refl}
 use mathlib.Core.Bool.{Bool, true, false, cond}
 use mathlib.Core.List.{List, [], _∷_, _++_, map}
 use lib.Dec.{eqb}
 use lib.ListN.{length, length-append, length-map}
-use Rattle.paper.specs.Lists.{_∈_, any, count, sum, range}
+use Rattle.paper.specs.Lists.{any, count, sum, range}
 use Rattle.paper.specs.Fields.{array}
 use Rattle.paper.specs.Terms.{Term, given, Query, Assignment, assigned}
 use Rattle.paper.specs.Edges.{Source, sources, indexNumber, Guard, Edge}

@@ -6,10 +6,10 @@ use native.Mathlib.Nat.{not-suc-le-zero, add-zero, add-assoc, mul-le-mul-right, 
 use native.Mathlib.Omega.{arith}
 use mathlib.Core.Path.{_≡_, refl, sym, ap, ap₂, _∙_, subst}
 use mathlib.Core.Logic.{_⊎_, inl, inr, ⊎-elim, ⊎-map, _≢_}
-use mathlib.Core.List.{List, [], _∷_, List·Memᴰ·head, List·Memᴰ·tail, List·Memᴰ·not-nil}
+use mathlib.Core.List.{List, [], _∷_, List·Memᴰ·head, List·Memᴰ·tail, List·Memᴰ·not-nil, List·Memᴰ·cases-cons}
 use mathlib.Core.Option.{Option, none, some}
 use lib.Dec.{ltb}
-use lib.ListN.{length, take, drop, length-take, length-drop}
+use lib.ListN.{length, getD, take, drop, length-take, length-drop}
 use lib.Seq.{drop-drop}
 use borrow.Author.Tests.{ltb-true, ltb-false}
 use Rattle.paper.specs.Lists.{_∈_, numberFrom, number, firstMet}
@@ -31,6 +31,15 @@ pub data Built (w : ℕ) : Query → Type 0 where
 -- every element of a list is a byte
 abbrev pub AreBytes : List ℕ → Type 0
 AreBytes bytes = (x : ℕ) → x ∈ bytes → x < 256
+
+-- a slice of bytes is such a list
+pub are-bytes : (xs : List ℕ) → ((i : ℕ) → getD xs i 0 < 256) → AreBytes xs
+are-bytes [] small x here = absurd (List·Memᴰ·not-nil here)
+are-bytes (y ∷ xs) small x here = go (List·Memᴰ·cases-cons here) (are-bytes xs (λ i. small (suc i)) x)
+  where
+    go : (x ≡ y) ⊎ (x ∈ xs) → (x ∈ xs → x < 256) → x < 256
+    go (inl same) later = subst (λ (z : ℕ). z < 256) (sym same) (small 0)
+    go (inr further) later = later further
 
 -- what is taken or left of bytes is of them
 take-in : (k : ℕ) (bytes : List ℕ) {x : ℕ} → x ∈ take k bytes → x ∈ bytes
@@ -146,10 +155,6 @@ loaded-built w (field at kind numbers ∷ rest) query answer shaped built e =
     (λ unmet. loaded-built w rest (extend query kind numbers) answer (λ item here. shaped item (List·Memᴰ·tail here))
     (more built kind numbers (shaped (field at kind numbers) (List·Memᴰ·head refl)) (unmet .0)) (sym (unmet .1) ∙ e))
     (λ met. refused-accepted (met .1) e) (load-field at kind numbers rest query)
-
--- what is accepted has no more bytes than the paper allows, and is built
-pub accepted-short : (w : ℕ) (bytes : List ℕ) (query : Query) → load w bytes ≡ Loaded.accepted query → length bytes ≤ maxBytes
-accepted-short w bytes query e = ⊎-elim (λ long. refused-accepted (long .1) e) (λ short. short .0) (load-cases w bytes)
 
 pub accepted-built : (w : ℕ) (bytes : List ℕ) (query : Query) → AreBytes bytes → load w bytes ≡ Loaded.accepted query → Built w query
 accepted-built w bytes query are e =

@@ -1,11 +1,11 @@
 -- What the three calls answer of an accepted query, by its conflicting pair: the answers' definitions, read once for all theorems above.
 -- Assumes nothing.
-use Prim.Native.Nat.{ℕ, zero, suc, _+_, _*_, _<_, _≤_, _^_}
-use mathlib.Core.Path.{_≡_, refl, sym, ap, _∙_, subst}
+use Prim.Native.Nat.{ℕ, _+_, _*_, _<_, _≤_, _^_}
+use mathlib.Core.Path.{_≡_, refl}
 use mathlib.Core.Logic.{_⊎_, inl, inr}
 use mathlib.Core.Bool.{Bool, true, false, cond}
 use mathlib.Core.List.{List, [], _∷_}
-use mathlib.Core.Option.{Option, none, some}
+use mathlib.Core.Option.{none, some}
 use borrow.Author.Tests.{ltb-true, ltb-false, lt-leb}
 use lib.Dec.{ltb}
 use lib.IntN.{ℤ}
@@ -18,7 +18,7 @@ use Rattle.paper.specs.Conflict.{Pair}
 use Rattle.paper.specs.Lemma.{lemmaBytes}
 use Rattle.paper.specs.Clauses.{clausesOf, freshCount, run}
 use Rattle.paper.specs.Answers.{Verdict, Checked, checkRefused, check, look, Written, writeRefused, writeClauses}
-use Rattle.meaning.proofs.Whole.{guessOf, pairOf, pairsOf, lemmaOf, modelOf}
+use Rattle.meaning.proofs.Whole.{pairOf, pairsOf, lemmaOf, modelOf}
 
 -- an answer of so many elements, or 10 where that is more than the room
 by-room : {A : Type 0} (room long : ℕ) (answer : A) (refusedFor : ℕ → A)

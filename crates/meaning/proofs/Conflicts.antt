@@ -1,22 +1,22 @@
 -- The pair that is taken: it conflicts, it is the least, and its path is a shortest walk. Its lemma is false under the guess.
 -- Assumes nothing.
-use Prim.Native.Nat.{ℕ, zero, suc, _<_, _≤_}
+use Prim.Native.Nat.{ℕ, _<_, _≤_}
 use native.Mathlib.Nat.{le-refl}
 use native.Mathlib.Omega.{arith}
 use mathlib.Core.Path.{_≡_, refl, sym, ap, _∙_, subst}
 use mathlib.Core.Logic.{_⊎_, inl, inr, _≢_}
-use mathlib.Core.Bool.{Bool, true, false, cond, not, true≢false, false≢true}
-use mathlib.Core.List.{List, [], _∷_, _++_, List·Memᴰ·head, List·Memᴰ·tail, List·Memᴰ·not-nil, List·Memᴰ·cases-cons, List·Memᴰ·eq-of-singleton, List·Memᴰ·append-cases, Memᴰ·append-left, Memᴰ·append-right, nil≢cons, head-eq-of-cons-eq, tail-eq-of-cons-eq}
+use mathlib.Core.Bool.{Bool, true, false, cond, not, false≢true}
+use mathlib.Core.List.{List, [], _∷_, _++_, List·Memᴰ·head, List·Memᴰ·tail, List·Memᴰ·eq-of-singleton, List·Memᴰ·append-cases, Memᴰ·append-right, nil≢cons, head-eq-of-cons-eq, tail-eq-of-cons-eq}
 use mathlib.Core.Option.{Option, none, some, Option·none-ne-some}
 use borrow.Author.Tests.{eqb-true, eqb-false, eq-eqb, ne-eqb}
 use lib.Dec.{eqb}
 use lib.ListN.{length}
-use Rattle.paper.specs.Lists.{_∈_, mapOption, orElse, find, any}
+use Rattle.paper.specs.Lists.{_∈_, mapOption, orElse, find}
 use Rattle.paper.specs.Fields.{base, boolean, array}
 use Rattle.paper.specs.Terms.{Term, given, Assignment}
 use Rattle.paper.specs.Edges.{indexNumber, Source, sources, Guard, Edge, edges, opens, openEdges}
-use Rattle.paper.specs.Reach.{Walk, indexValue, costs, stepCost, distances, reachesAt, reaches}
-use Rattle.paper.specs.Conflict.{Pair, conflicts, firstPair, conflict}
+use Rattle.paper.specs.Reach.{Walk, indexValue, costs, stepCost, distances, reaches}
+use Rattle.paper.specs.Conflict.{Pair, conflicts, firstPair}
 use Rattle.paper.specs.Lemma.{Literal, literalOf, hypotheses, path, lemma, says, isConclusion, lemmaHolds}
 use Rattle.meaning.proofs.Lists.{find-in, find-none, find-first, keep-in, none-has, same-test}
 use Rattle.meaning.proofs.Walks.{walked-among}

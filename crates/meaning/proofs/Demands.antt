@@ -1,8 +1,8 @@
 -- The demands, said of the answers of the three calls: each joins what the calls answer with what the answers mean.
 -- Assumes nothing.
-use Prim.Native.Nat.{ℕ, _+_, _*_, _<_, _≤_, _^_}
+use Prim.Native.Nat.{ℕ, _+_, _*_, _<_, _≤_}
 use native.Mathlib.Omega.{arith}
-use mathlib.Core.Path.{_≡_, refl, sym, ap, _∙_, subst}
+use mathlib.Core.Path.{_≡_, refl, sym, ap, _∙_}
 use mathlib.Core.Logic.{_⊎_, inl, inr, _↔_}
 use mathlib.Core.Bool.{Bool, true, false}
 use mathlib.Core.List.{List}
@@ -10,7 +10,7 @@ use mathlib.Core.Option.{Option, none, some}
 use lib.IntN.{ℤ}
 use lib.ListN.{length}
 use Rattle.paper.specs.Lists.{_∈_, all}
-use Rattle.paper.specs.Fields.{base, boolean, array}
+use Rattle.paper.specs.Fields.{base, boolean}
 use Rattle.paper.specs.Terms.{given, Query, Assignment}
 use Rattle.paper.specs.Interpretations.{Memories, Interpretation, Consistent}
 use Rattle.paper.specs.Load.{Loaded, load}
@@ -23,7 +23,7 @@ use Rattle.meaning.proofs.Built.{AreBytes}
 use Rattle.meaning.proofs.Accepted.{Accepted, accepted}
 use Rattle.meaning.proofs.Whole.{guessOf, pairOf, pairsOf, lemmaOf, modelOf}
 use Rattle.meaning.proofs.Memories.{interprets-same}
-use Rattle.meaning.proofs.Called.{check-none, check-some, inConflict, look-none, write-none, write-some, clausesAre, written}
+use Rattle.meaning.proofs.Called.{check-none, check-some, inConflict, look-none, write-some, clausesAre, written}
 use Rattle.meaning.proofs.Verdict.{numbered, model-fits, lemma-sound, lemma-false, lemma-names, conflict-refutes, fits-none, none-fits, literals-most}
 use Rattle.meaning.proofs.Clauses.{clauses-say-lemma}
 use Rattle.meaning.proofs.Variables.{Names, clauses-name}

@@ -6,17 +6,17 @@ use native.Mathlib.Decide.{decLt}
 use native.Mathlib.Omega.{arith}
 use mathlib.Core.Path.{_≡_, refl, sym, ap, _∙_, subst}
 use mathlib.Core.Logic.{_⊎_, inl, inr}
-use mathlib.Core.Bool.{Bool, true, false, cond, true≢false, false≢true}
-use mathlib.Core.List.{List, [], _∷_, map, foldr, List·Memᴰ·head, List·Memᴰ·tail, List·Memᴰ·cases-cons, List·Memᴰ·not-nil}
+use mathlib.Core.Bool.{Bool, true, false, cond, false≢true}
+use mathlib.Core.List.{List, [], _∷_, foldr, List·Memᴰ·head, List·Memᴰ·tail}
 use mathlib.Core.Option.{Option, none, some, Option·none-ne-some}
-use borrow.Author.Tests.{eqb-true, eqb-false, eq-eqb, leb-true, leb-false}
+use borrow.Author.Tests.{eqb-true, eq-eqb, leb-true, leb-false}
 use lib.Dec.{eqb, leb}
 use lib.ListN.{length, getD}
-use Rattle.paper.specs.Lists.{_∈_, isSome, mapOption, bindOption, range}
+use Rattle.paper.specs.Lists.{_∈_, isSome, mapOption, bindOption}
 use Rattle.paper.specs.Edges.{Guard, Edge}
 use Rattle.paper.specs.Reach.{Joins, Walk, stay, step, across, least, costs, over, near}
 use Rattle.meaning.proofs.Lists.{table-at, table-past}
-use Rattle.meaning.proofs.Walks.{Simple, shorten, Ranged, joins-below, simple-short}
+use Rattle.meaning.proofs.Walks.{shorten, Ranged, joins-below, simple-short}
 
 -- an entry that is there and at most so much
 abbrev pub AtMost : Option ℕ → ℕ → Type 0

@@ -1,13 +1,13 @@
 -- What the edges and sources of well-numbered terms name is given: array terms, base terms, Booleans.
 -- Assumes nothing.
 use Prim.Native.Nat.{ℕ, _<_}
-use mathlib.Core.Path.{_≡_, refl, sym, ap, _∙_, subst}
+use mathlib.Core.Path.{_≡_}
 use mathlib.Core.Logic.{_⊎_, inl, inr}
-use mathlib.Core.List.{List, [], _∷_, List·Memᴰ·head, List·Memᴰ·tail, List·Memᴰ·not-nil, List·Memᴰ·eq-of-singleton, List·Memᴰ·cases-cons}
-use Rattle.paper.specs.Lists.{_∈_, concatMap}
-use Rattle.paper.specs.Fields.{Series, base, boolean, array}
+use mathlib.Core.List.{List, [], _∷_, List·Memᴰ·not-nil, List·Memᴰ·eq-of-singleton, List·Memᴰ·cases-cons}
+use Rattle.paper.specs.Lists.{_∈_}
+use Rattle.paper.specs.Fields.{base, boolean, array}
 use Rattle.paper.specs.Terms.{Term, series, given, Assignment}
-use Rattle.paper.specs.Edges.{Place, at, indexNumber, Source, sourceOf, sources, Guard, Edge, edgeOf, edges, opens, openEdges}
+use Rattle.paper.specs.Edges.{indexNumber, Source, sourceOf, sources, Guard, Edge, edgeOf, edges, opens, openEdges}
 use Rattle.meaning.proofs.Lists.{concatMap-in, keep-in}
 use Rattle.meaning.proofs.Walks.{Ranged}
 use Rattle.meaning.proofs.Accepted.{Below, ownNumber}

@@ -1,9 +1,9 @@
--- The headline theorems: what the three calls promise, of every string of bytes and every width w. This file only restates and cites.
--- `check`, `look` and `writeClauses` are the paper's answers (crates/paper/specs/Answers.antt).
+-- The headline theorems: what the calls promise, of every string of bytes and every width w. This file only restates and cites.
+-- `check`, `look`, `list` and `writeClauses` are the paper's answers (crates/paper/specs/Answers.antt).
 -- Assumes nothing.
 use Prim.Native.Nat.{ℕ, _+_, _*_, _<_, _≤_}
 use mathlib.Core.Path.{_≡_}
-use mathlib.Core.Logic.{_⊎_, _↔_}
+use mathlib.Core.Logic.{_⊎_, _↔_, _≢_}
 use mathlib.Core.Bool.{Bool, true}
 use mathlib.Core.List.{List, map}
 use mathlib.Core.Option.{some}
@@ -17,6 +17,8 @@ use Rattle.paper.specs.Edges.{Source, sources}
 use Rattle.paper.specs.Reach.{Reaches, reaches}
 use Rattle.paper.specs.Conflict.{Pair}
 use Rattle.paper.specs.Lemma.{Literal}
+use Rattle.paper.specs.Model.{model}
+use Rattle.paper.specs.Cells.{Cell, cells}
 use Rattle.paper.specs.Clauses.{clausesOf, freshCount}
 use Rattle.paper.specs.Answers.{Verdict, check, checkRefused, look, lookRefused, writeClauses, writeRefused}
 use Rattle.meaning.proofs.Built.{AreBytes}
@@ -27,6 +29,8 @@ use Rattle.meaning.proofs.Conflicts.{Taken, Shortest, path-is}
 use Rattle.meaning.proofs.Whole.{guessOf, pairOf, pairsOf}
 use Rattle.meaning.proofs.Verdict.{numbered, pair-taken}
 use Rattle.meaning.proofs.Counts as Counts
+use Rattle.meaning.proofs.Cells as Cells
+use Rattle.meaning.proofs.Cells.{Ascend}
 use Rattle.meaning.proofs.Demands as Demands
 use Rattle.meaning.proofs.Demands.{Lemma, Clausal, Bounded}
 use Rattle.meaning.proofs.Answered as Answered
@@ -53,6 +57,16 @@ module _ (w : ℕ) (bytes : List ℕ) (query : Query) (are-bytes : AreBytes byte
   pub lookup-interprets : (room : ℕ) → check w bytes room .verdict ≡ Verdict.consistent
       → Interpretation w (query .terms) (guessOf query) (λ a x. look w bytes a x .value)
   lookup-interprets = Demands.lookup-interprets w bytes query are-bytes loaded
+
+  -- The cells of an array that are listed have the model's values, up by their indices; everywhere else the model is 0.
+  pub cells-model : (a : ℕ) (cell : Cell) → cell ∈ cells (query .terms) (guessOf query) a → cell .value ≡ model (query .terms) (guessOf query) a (cell .index)
+  cells-model = Cells.cells-model (query .terms) (guessOf query)
+
+  pub cells-all : (a x : ℕ) → ((cell : Cell) → cell ∈ cells (query .terms) (guessOf query) a → cell .index ≢ x) → model (query .terms) (guessOf query) a x ≡ 0
+  cells-all = Cells.cells-all (query .terms) (guessOf query)
+
+  pub cells-ascend : (a : ℕ) → Ascend (cells (query .terms) (guessOf query) a)
+  cells-ascend = Cells.cells-ascend (query .terms) (guessOf query)
 
   -- In a conflict, what is read off the bytes written is a lemma that holds in every interpretation of the terms and is false under the guess.
   pub conflict-rules-out : (room : ℕ) → check w bytes room .verdict ≡ Verdict.inConflict → Lemma w query (check w bytes room .written)

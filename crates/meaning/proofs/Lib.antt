@@ -16,6 +16,7 @@ pub mod Reach
 pub mod Literals
 pub mod Soundness
 pub mod Model
+pub mod Cells
 pub mod Conflicts
 pub mod Mapped
 pub mod Bits

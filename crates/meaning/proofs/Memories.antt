@@ -1,10 +1,9 @@
 -- An interpretation goes by its memories at the given array terms and at the indices below 2^w alone.
 -- Assumes nothing.
 use Prim.Native.Nat.{ℕ, _<_, _^_}
-use mathlib.Core.Path.{_≡_, refl, sym, ap, _∙_, subst}
+use mathlib.Core.Path.{_≡_, sym, _∙_, subst}
 use mathlib.Core.Bool.{Bool, true, false, cond}
 use mathlib.Core.List.{List}
-use Rattle.paper.specs.Lists.{_∈_}
 use Rattle.paper.specs.Fields.{base, array}
 use Rattle.paper.specs.Terms.{Term, given, Assignment, series}
 use Rattle.paper.specs.Interpretations.{Memories, Agree, Means, Interpretation}

@@ -1,24 +1,24 @@
 -- Where no two sources conflict, the model's memories are an interpretation with all the assigned values and truths.
 -- Assumes nothing.
-use Prim.Native.Nat.{ℕ, zero, suc, _<_, _^_}
-use mathlib.Core.Path.{_≡_, refl, sym, ap, _∙_, subst}
-use mathlib.Core.Logic.{_⊎_, inl, inr, _≢_, _↔_}
+use Prim.Native.Nat.{ℕ, _<_, _^_}
+use mathlib.Core.Path.{_≡_, refl, sym, ap, _∙_}
+use mathlib.Core.Logic.{_⊎_, inl, inr}
 use mathlib.Core.Bool.{Bool, true, false, cond, not, true≢false, false≢true}
 use mathlib.Core.List.{List, [], _∷_, List·Memᴰ·head, List·Memᴰ·tail, List·Memᴰ·not-nil, List·Memᴰ·cases-cons}
 use mathlib.Core.Option.{Option, none, some, Option·none-ne-some}
-use borrow.Author.Tests.{eqb-true, eqb-false, eq-eqb, ne-eqb}
+use borrow.Author.Tests.{eqb-true, eq-eqb, ne-eqb}
 use lib.Dec.{eqb}
 use lib.Pow.{pow-pos}
 use Rattle.paper.specs.Lists.{_∈_, mapOption, orElse, find}
-use Rattle.paper.specs.Fields.{base, boolean, array}
+use Rattle.paper.specs.Fields.{base}
 use Rattle.paper.specs.Terms.{Term, given, Assignment}
 use Rattle.paper.specs.Interpretations.{Means, Interpretation}
 use Rattle.paper.specs.Edges.{Place, at, indexNumber, covers, Source, sourceOf, sources, Guard, Edge, edgeOf, edges, opens, openEdges}
-use Rattle.paper.specs.Reach.{Joins, Walk, stay, step, indexValue, reachesAt, reaches}
+use Rattle.paper.specs.Reach.{stay, indexValue, reachesAt, reaches}
 use Rattle.paper.specs.Conflict.{Pair, conflicts, firstPair, conflict}
 use Rattle.paper.specs.Model.{valueGiven, model}
 use Rattle.meaning.proofs.Lists.{find-in, find-none, find-same, same-test, concatMap-has, keep-has}
-use Rattle.meaning.proofs.Walks.{walk-back, walk-on, joins-back}
+use Rattle.meaning.proofs.Walks.{walk-back, walk-on}
 use Rattle.meaning.proofs.Accepted.{Witnessed}
 use Rattle.meaning.proofs.Given.{Numbered, source-given}
 use Rattle.meaning.proofs.Reach.{reached-walk, walk-reached}

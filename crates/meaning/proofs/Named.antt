@@ -12,7 +12,7 @@ use lib.Dec.{eqb, ltb}
 use borrow.Author.Tests.{eq-eqb, lt-ltb, le-ltb}
 use Rattle.paper.specs.Lists.{_∈_, any, all, concatMap}
 use Rattle.paper.specs.Lemma.{Literal, lemmaHolds}
-use Rattle.paper.specs.Clauses.{bit, boolean, fresh, Signed, Clause, Gadget, gadget, gadgets, linksOf, linking, namedClauses}
+use Rattle.paper.specs.Clauses.{fresh, Signed, Clause, Gadget, gadget, gadgets, linksOf, linking, namedClauses}
 use Rattle.meaning.proofs.Lists.{any-has, any-in, all-in, all-has, concatMap-has, concatMap-in, or-cases}
 use Rattle.meaning.proofs.Gadgets.{Truths, signedSays, clauseSays, valuesOf, met, SameAt, gadget-serves}
 

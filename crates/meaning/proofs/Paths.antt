@@ -5,13 +5,12 @@ use Prim.Native.Nat.{ℕ, zero, suc, _+_, _<_, _≤_}
 use native.Mathlib.Nat.{suc-add, le-refl, le-of-lt, not-suc-le-zero, le-of-suc-le-suc}
 use native.Mathlib.Omega.{arith}
 use mathlib.Core.Path.{_≡_, refl, sym, ap, _∙_, subst}
-use mathlib.Core.Logic.{_⊎_, inl, inr, _↔_}
-use mathlib.Core.Bool.{Bool, true, false, false≢true}
-use mathlib.Core.List.{List, [], _∷_, _++_, List·Memᴰ·head, List·Memᴰ·tail, List·Memᴰ·cases-cons, List·Memᴰ·not-nil, List·Memᴰ·eq-of-singleton, Memᴰ·append-left}
-use mathlib.Core.Option.{Option, none, some, Option·none-ne-some, Option·getD}
+use mathlib.Core.Logic.{_⊎_, inl, inr}
+use mathlib.Core.Bool.{true, false, false≢true}
+use mathlib.Core.List.{List, [], _∷_, _++_, List·Memᴰ·cases-cons, List·Memᴰ·not-nil, List·Memᴰ·eq-of-singleton, Memᴰ·append-left}
+use mathlib.Core.Option.{Option, none, some, Option·getD}
 use borrow.Author.Tests.{eqb-true, eq-eqb}
-use lib.Dec.{eqb}
-use lib.ListN.{length, getD}
+use lib.ListN.{length}
 use Rattle.paper.specs.Lists.{_∈_, find, listFrom}
 use Rattle.paper.specs.Edges.{Guard, Edge}
 use Rattle.paper.specs.Reach.{Joins, Walk, stay, step, across, costs, over, near}
@@ -19,7 +18,7 @@ use Rattle.paper.specs.Lemma.{sameDistance, leadsNearer, pathFrom}
 use Rattle.meaning.proofs.Lists.{find-in, find-none, find-first}
 use Rattle.meaning.proofs.Distinct.{Distinct}
 use Rattle.meaning.proofs.Walks.{Ranged, joins-below, visited, simple-short}
-use Rattle.meaning.proofs.Distances.{AtMost, joins-across, over-is, over-by, entry, entry-inside, entry-walk, entry-least}
+use Rattle.meaning.proofs.Distances.{joins-across, over-is, over-by, entry, entry-inside, entry-walk, entry-least}
 
 module _ (cost : Guard → ℕ) (among : List Edge) (goal : ℕ) where
   -- d is the least cost of a walk from a to the goal

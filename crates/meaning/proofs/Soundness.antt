@@ -3,14 +3,13 @@
 -- Assumes nothing.
 use Prim.Native.Nat.{ℕ, _<_, _^_}
 use mathlib.Core.Path.{_≡_, refl, sym, ap, _∙_, subst}
-use mathlib.Core.Logic.{_⊎_, inl, inr, _≢_}
-use mathlib.Core.Bool.{Bool, true, false, cond, not, false≢true}
+use mathlib.Core.Logic.{_⊎_, inl, inr}
+use mathlib.Core.Bool.{Bool, true, false, cond, not}
 use mathlib.Core.List.{List, [], _∷_, _++_, List·Memᴰ·head, List·Memᴰ·tail, List·Memᴰ·not-nil, List·Memᴰ·cases-cons, List·Memᴰ·eq-of-singleton, Memᴰ·append-left, Memᴰ·append-right}
 use borrow.Author.Tests.{eqb-true, eqb-false, eq-eqb}
 use lib.Dec.{eqb}
-use Rattle.paper.specs.Lists.{_∈_, any, all}
-use Rattle.paper.specs.Fields.{base}
-use Rattle.paper.specs.Terms.{Term, given, Assignment}
+use Rattle.paper.specs.Lists.{_∈_, all}
+use Rattle.paper.specs.Terms.{Term, Assignment}
 use Rattle.paper.specs.Interpretations.{Memories, Means, Interpretation}
 use Rattle.paper.specs.Edges.{indexNumber, Source, sourceOf, sources, Guard, Edge, edgeOf, edges}
 use Rattle.paper.specs.Reach.{Joins, Walk, stay, step}

@@ -9,7 +9,7 @@ use mathlib.Core.List.{List, [], _∷_, map, List·Memᴰ·head, List·Memᴰ·t
 use lib.IntN.{ℤ, pos, negℤ}
 use Rattle.paper.specs.Lists.{_∈_, sum, concatMap, range}
 use Rattle.paper.specs.Lemma.{Literal}
-use Rattle.paper.specs.Clauses.{Variable, bit, boolean, fresh, Signed, plus, minus, Clause, Gadget, differing, agreeing, gadget, gadgets, linking, namedClauses, freshCount, variableNumber, signedNumber, clausesOf}
+use Rattle.paper.specs.Clauses.{Variable, bit, boolean, fresh, Signed, plus, minus, Clause, Gadget, differing, agreeing, gadget, gadgets, namedClauses, freshCount, variableNumber, signedNumber, clausesOf}
 use Rattle.meaning.proofs.Lists.{concatMap-in, range-in}
 use Rattle.meaning.proofs.Literals.{Within}
 use Rattle.meaning.proofs.Named.{linking-in}

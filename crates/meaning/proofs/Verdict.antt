@@ -3,12 +3,11 @@
 use Prim.Native.Nat.{ℕ, _≤_}
 use mathlib.Core.Path.{_≡_, refl, sym, _∙_}
 use mathlib.Core.Bool.{true, false, false≢true}
-use mathlib.Core.List.{List}
 use mathlib.Core.Option.{Option, none, some}
 use lib.ListN.{length}
 use Rattle.paper.specs.Lists.{_∈_}
 use Rattle.paper.specs.Fields.{base, boolean}
-use Rattle.paper.specs.Terms.{Term, given, Query, Assignment}
+use Rattle.paper.specs.Terms.{given, Query, Assignment}
 use Rattle.paper.specs.Interpretations.{Memories, Interpretation, Consistent}
 use Rattle.paper.specs.Edges.{sources}
 use Rattle.paper.specs.Conflict.{Pair, conflict}

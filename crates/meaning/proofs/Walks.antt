@@ -1,19 +1,19 @@
 -- Walks: put together, turned round, and cut down to those that come nowhere twice.
 -- Assumes nothing.
-use Prim.Native.Nat.{ℕ, zero, suc, _+_, _<_, _≤_}
-use native.Mathlib.Nat.{add-assoc, le-refl}
+use Prim.Native.Nat.{ℕ, suc, _+_, _<_, _≤_}
+use native.Mathlib.Nat.{le-refl}
 use native.Mathlib.Omega.{arith}
 use mathlib.Core.Path.{_≡_, refl, sym, ap, _∙_, subst}
 use mathlib.Core.Logic.{_⊎_, inl, inr}
 use mathlib.Core.Bool.{Bool, true, false, true≢false}
-use mathlib.Core.List.{List, [], _∷_, _++_, map, List·Memᴰ·head, List·Memᴰ·tail, List·Memᴰ·cases-cons, List·Memᴰ·eq-of-singleton, List·Memᴰ·not-nil}
-use borrow.Author.Tests.{eqb-true, eqb-false, eq-eqb}
+use mathlib.Core.List.{List, [], _∷_, _++_, List·Memᴰ·cases-cons, List·Memᴰ·eq-of-singleton, List·Memᴰ·not-nil}
+use borrow.Author.Tests.{eqb-true, eq-eqb}
 use lib.Dec.{eqb}
 use lib.ListN.{length}
-use Rattle.paper.specs.Lists.{_∈_, any, sum}
+use Rattle.paper.specs.Lists.{_∈_, any}
 use Rattle.paper.specs.Edges.{Guard, Edge}
 use Rattle.paper.specs.Reach.{Joins, Walk, stay, step, costs}
-use Rattle.meaning.proofs.Lists.{any-in, any-has, bool-cases}
+use Rattle.meaning.proofs.Lists.{any-in, any-has}
 use Rattle.meaning.proofs.Distinct.{Distinct, distinct-below}
 
 -- an edge joins both ways

@@ -18,9 +18,11 @@ use Rattle.paper.specs.Reach.{distances, reachesAt, reaches, pairs}
 use Rattle.paper.specs.Conflict.{conflicts, conflict}
 use Rattle.paper.specs.Lemma.{Literal, hypotheses, path, lemma, lemmaHolds}
 use Rattle.paper.specs.Model.{model}
+use Rattle.paper.specs.Cells.{Cell}
+use Rattle.paper.specs.Cells as Listing
 use Rattle.paper.specs.Clauses.{namedClauses, freshCount, clausesOf, clauseHolds, assignmentOf}
 use Rattle.paper.specs.Reading.{readLemma, readRun}
-use Rattle.paper.specs.Answers.{Verdict, Checked, Looked, Written, check, look, writeClauses, writtenOver}
+use Rattle.paper.specs.Answers.{Verdict, Checked, Looked, Listed, Written, check, look, list, writeClauses, writtenOver}
 use Rattle.paper.proofs.Queries.{freeBase, freeBoolean, variable, write, conditional, read, equality, equals, differs, holds, fails, concludes, times}
 use Rattle.paper.proofs.Queries.{k1, k2, k3, k4With, k6With, k9, k10, k11tag, k11short, k11length, k12}
 use Rattle.paper.proofs.Queries.{o1, o2, o3, o4, o5, o6, o7, o8, o9, o10, o11, o12, o13, oneRead, twoReads, basesTwo, arraysTwo}
@@ -29,6 +31,7 @@ use Rattle.paper.proofs.Queries.{o1, o2, o3, o4, o5, o6, o7, o8, o9, o1
 pub data Answer : Type 0 where
   checked : Checked → Answer
   looked : Looked → Answer
+  listed : Listed → Answer
   written : Written → Answer
   counted : (refusal offset variables clauses numbers : ℕ) → Answer
   bytesAre : List ℕ → Answer
@@ -75,6 +78,13 @@ module _ (bytes : List ℕ) where
   unfoldable pub noCell : (array index refusal offset : ℕ) → Row
   noCell array index refusal offset =
       looked (look 32 bytes array index) is looked (record { refusal = refusal; offset = offset; value = 0 })
+
+  -- the cells of one array, with room for so many
+  unfoldable pub cellsIn : (room array : ℕ) → List Cell → Row
+  cellsIn room array cells = listed (list 32 bytes array room) is listed (record { refusal = 0; offset = 0; listed = cells })
+
+  unfoldable pub noCells : (room array refusal offset : ℕ) → Row
+  noCells room array refusal offset = listed (list 32 bytes array room) is listed (record { refusal = refusal; offset = offset; listed = [] })
 
   -- the clause writer, with room for so many numbers
   unfoldable pub clausesCount : (clauses variables numbers : ℕ) → Row
@@ -280,6 +290,27 @@ cells =
     ∷ noCell (k6With 0 0) 9 (2 ^ 32) 9 110
     ∷ []
 
+-- the cells of each array of K8, as 01 has them; by index where the sources come otherwise; and 12, 11 and 10 of a listing, after 1 to 9
+abbrev pub at : (index value : ℕ) → Cell
+at index value = record { index = index; value = value }
+
+unfoldable pub listings : List Row
+listings =
+    cellsIn (k6With 1 0) 304 0 (at 5 20 ∷ at 6 0 ∷ [])
+    ∷ cellsIn (k6With 1 0) 304 1 (at 5 21 ∷ at 6 1 ∷ [])
+    ∷ cellsIn (k6With 1 0) 304 2 (at 3 10 ∷ at 5 20 ∷ at 6 0 ∷ [])
+    ∷ cellsIn (k6With 1 0) 304 3 (at 4 11 ∷ at 5 21 ∷ at 6 1 ∷ [])
+    ∷ cellsIn (freeBase 9 ++ freeBase 4 ++ freeBase 6 ++ variable ++ read 0 0 7 ++ read 0 1 8 ++ read 0 2 5) 304 0 (at 4 8 ∷ at 6 5 ∷ at 9 7 ∷ [])
+    ∷ cellsIn k2 304 0 (at 5 7 ∷ [])
+    ∷ cellsIn variable 0 0 []
+    ∷ cellsIn (k6With 1 0) 3 2 (at 3 10 ∷ at 5 20 ∷ at 6 0 ∷ [])
+    ∷ noCells (k6With 1 0) 2 2 10 0
+    ∷ noCells (k6With 1 0) 0 4 11 0
+    ∷ noCells k1 0 0 12 0
+    ∷ noCells k1 304 9 12 0
+    ∷ noCells (k6With 0 0) 304 0 9 110
+    ∷ []
+
 -- 10: what just fits, and one less; a consistent check needs no room; 12 before 10
 unfoldable pub rooms : List Row
 rooms =
@@ -342,7 +373,7 @@ readings =
     ∷ []
 
 unfoldable pub table : List Row
-table = ofThePaper ++ lemmas ++ heads ++ limits ++ fields ++ cells ++ rooms ++ meanings ++ clauses ++ readings
+table = ofThePaper ++ lemmas ++ heads ++ limits ++ fields ++ cells ++ listings ++ rooms ++ meanings ++ clauses ++ readings
 
 abbrev pub answers : Row → Answer
 answers (one is other) = one
@@ -351,5 +382,5 @@ abbrev pub says : Row → Answer
 says (one is other) = other
 
 pub known : map answers table ≡ map says table
-unfolding itemAt given faults extend load sources edges openEdges distances reachesAt reaches pairs conflicts conflict hypotheses path lemma model namedClauses freshCount clausesOf check look writeClauses table ofThePaper lemmas heads limits fields cells rooms meanings clauses readings consistentIn conflictIn refusedIn clausesCount clausesIn noClauses cell noCell count
+unfolding itemAt given faults extend load sources edges openEdges distances reachesAt reaches pairs conflicts conflict hypotheses path lemma model namedClauses freshCount clausesOf Listing.cells check look list writeClauses table ofThePaper lemmas heads limits fields cells listings rooms meanings clauses readings consistentIn conflictIn refusedIn clausesCount clausesIn noClauses cell noCell cellsIn noCells count
 known = refl

@@ -1,4 +1,4 @@
--- The answers of the three calls: number and offset of the refusal, every other number, and what is written. 01, Refusals by number:
+-- The answers of the calls: number and offset of the refusal, every other number, and what is written. 01, Refusals by number:
 -- "A refusal gives number and offset, every other number 0, and the answer buffer is untouched."
 -- Assumes nothing.
 use Prim.Native.Nat.{ℕ, zero, suc, _+_, _*_, _^_}
@@ -16,6 +16,7 @@ use Rattle.paper.specs.Reach.{pairs}
 use Rattle.paper.specs.Conflict.{Pair, conflict}
 use Rattle.paper.specs.Lemma.{Literal, lemma, lemmaBytes}
 use Rattle.paper.specs.Model.{model}
+use Rattle.paper.specs.Cells.{Cell, cells}
 use Rattle.paper.specs.Clauses.{clausesOf, freshCount, run}
 
 -- "An accepted call writes the first bytes or numbers of the buffer, as many as it reports; the rest stay."
@@ -77,6 +78,30 @@ lookLoaded w a x (Loaded.accepted query) =
 -- the model's value at array a and index x
 unfoldable pub look : (w : ℕ) → List ℕ → (a x : ℕ) → Looked
 look w bytes a x = lookLoaded w a x (load w bytes)
+
+-- What a listing of the model's cells answers: the refusal, and the cells
+pub record Listed : Type 0 where
+  pub refusal : ℕ
+  pub offset : ℕ
+  pub listed : List Cell
+
+abbrev pub listRefused : (refusal offset : ℕ) → Listed
+listRefused refusal offset = record { refusal = refusal; offset = offset; listed = [] }
+
+abbrev pub listLoaded : (a room : ℕ) → Loaded → Listed
+listLoaded a room (Loaded.refused refusal at) = listRefused refusal at
+listLoaded a room (Loaded.accepted query) =
+    let terms = query .terms in
+    let g = assigned (query .guess) in
+    let listed = cells terms g a in
+    unlessRefused
+    (firstMet ((isSome (conflict terms g) refuses 12) ∷ (leb (given array terms) a refuses 11) ∷ (ltb room (length listed) refuses 10) ∷ []))
+    (λ refusal. listRefused refusal 0)
+    (record { refusal = 0; offset = 0; listed = listed })
+
+-- the cells of the model at array a, in order of their indices, with room for so many
+unfoldable pub list : (w : ℕ) → List ℕ → (a room : ℕ) → Listed
+list w bytes a room = listLoaded a room (load w bytes)
 
 -- What the clause writer answers: the refusal, the variables, the clauses, and the numbers
 pub record Written : Type 0 where

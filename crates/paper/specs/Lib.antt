@@ -4,11 +4,13 @@ pub mod Fields
 pub mod Terms
 pub mod Interpretations
 pub mod Load
+pub mod Sizes
 pub mod Edges
 pub mod Reach
 pub mod Conflict
 pub mod Lemma
 pub mod Model
+pub mod Cells
 pub mod Clauses
 pub mod Reading
 pub mod Answers

@@ -4,12 +4,22 @@ ghost use Prim.Native.Nat.{_≤_};
 ghost use Rattle.io.specs.Counts.{Counts};
 use libc::STDIN_FILENO;
 use libc::STDOUT_FILENO;
+use paper::MAX_BYTES;
 
 // One byte more than a query may have, so that a longer input is refused with 1, however long it is.
-pub const QUERY_ROOM: usize = 4097;
+pub const QUERY_ROOM: usize = MAX_BYTES + 1;
 
 // How many bytes a page holds.
 pub const PAGE: usize = 4096;
+
+// Reads so many bytes of standard input, and answers whether they were there.
+pub fn fill(bytes: &mut [u8], length: usize) -> bool {
+    if bytes.len() < length {
+        return false;
+    }
+    let held = io::read_full(STDIN_FILENO, &mut bytes[..length]);
+    length <= held
+}
 
 // Reads standard input into the buffer, up to its end or the buffer's, and answers how many bytes there were.
 pub fn read_query(buffer: &mut [u8]) -> usize

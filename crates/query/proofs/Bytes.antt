@@ -39,12 +39,6 @@ module _ (bytes : List ℕ) (at : ℕ) where
   pub number-one : at < length bytes → number (take 1 (drop at bytes)) ≡ getD bytes at 0
   number-one h = rw (drop-cons bytes at 0) (zero-add (getD bytes at 0))
 
-  pub number-two : at + 2 ≤ length bytes → number (take 2 (drop at bytes)) ≡ getD bytes at 0 * 256 + getD bytes (at + 1) 0
-  number-two h =
-      let here : at < length bytes = omega arith in
-      let there : suc at < length bytes = omega arith in
-      rw (drop-cons bytes at 0, drop-cons bytes (suc at) 0, add-one at, zero-add (getD bytes at 0))
-
 -- The parts of a value, at their places
 
 abbrev pub twoAt : List ℕ → (at : ℕ) → ℕ

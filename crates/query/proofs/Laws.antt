@@ -149,9 +149,3 @@ module _ (w : ℕ) (bytes : List ℕ) (at : ℕ) where
       let here = field-here kind numbers next e in
       let whole = simp length-drop at (item-fits w at (drop at bytes) at kind numbers (here .1) .0) in
       (unroll bound (here .0) ∙ rw (here .1, here .2), omega (arith, here .2), omega (arith, here .0, here .2))
-
-  -- what a field holds has a number for each part of its kind
-  pub numbers-length : (kind : Kind) (numbers : List ℕ) (next : ℕ) → standing w bytes at ≡ field kind numbers next
-      → length numbers ≡ length (parts kind)
-  numbers-length kind numbers next e =
-      item-fits w at (drop at bytes) at kind numbers (field-here kind numbers next e .1) .1

@@ -53,6 +53,6 @@ standingOf End = end
 standingOf (Refused refusal) = broken (refusal .offset) (refusal .number)
 
 -- A field of the tag's kind, with the numbers that the bytes of its value hold
-pub record Holds (w tag : ℕ) (bytes : List ℕ) (f : Field) : Type 0 where
+pub record Carries (w tag : ℕ) (bytes : List ℕ) (f : Field) : Type 0 where
   pub kind : kindOf tag ≡ some (kindOfField f)
   pub numbers : numbersOf f ≡ cut w (parts (kindOfField f)) bytes

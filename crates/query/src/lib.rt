@@ -5,14 +5,17 @@ ghost use Prim.Native.Nat.{ℕ, _+_, _/_, _^_, _<_, _≤_};
 ghost use lib.ListN.{length, take, drop};
 ghost use Rattle.paper.specs.Lists.{number, isSome};
 ghost use Rattle.paper.specs.Fields.{kindOf, ownLength};
-ghost use Rattle.query.specs.Standing.{Holds, broken, standing, standingOf};
-
-// The refusals that the bytes alone decide (01, Refusals by number).
-const RUNS_PAST_END: u8 = 2;
-
-const UNKNOWN_TAG: u8 = 3;
-
-const WRONG_LENGTH: u8 = 4;
+ghost use Rattle.query.specs.Standing.{Carries, broken, standing, standingOf};
+use paper::CONDITIONAL;
+use paper::EQUALITY;
+use paper::FREE_BASE;
+use paper::FREE_BOOLEAN;
+use paper::READ;
+use paper::RUNS_PAST_END;
+use paper::UNKNOWN_TAG;
+use paper::VARIABLE;
+use paper::WRITE;
+use paper::WRONG_LENGTH;
 
 // The bytes of a field's head: tag and length.
 const HEAD: usize = 3;
@@ -102,10 +105,10 @@ fn number2(query: &[u8], at: usize) -> u16
 fn unknown(tag: u8) -> bool
     ensures { λ r. ⌜ r ≡ not (isSome (kindOf tag)) ⌝ }
 {
-    if tag < 1 {
+    if tag < FREE_BASE {
         return true;
     }
-    7 < tag
+    EQUALITY < tag
 }
 
 // The table's column of lengths; an assigned value takes the width.
@@ -115,12 +118,12 @@ fn own_length(tag: u8, width: usize) -> usize
 {
     let value = width / 8;
     match tag {
-        1 => value,
-        2 => 1,
-        3 => 0,
-        4 => 6,
-        5 => 6,
-        6 => 4 + value,
+        FREE_BASE => value,
+        FREE_BOOLEAN => 1,
+        VARIABLE => 0,
+        WRITE => 6,
+        CONDITIONAL => 6,
+        READ => 4 + value,
         _ => 9,
     }
 }
@@ -128,7 +131,7 @@ fn own_length(tag: u8, width: usize) -> usize
 // "write: array, index base, value base"
 fn write_at(query: &[u8], at: usize) -> Field
     requires { ⌜ at + 6 ≤ length (now query) ⌝ }
-    ensures { λ r. ⌜ ((w : ℕ) → Holds w 4 (drop at (now (query .entry))) r) ⌝ }
+    ensures { λ r. ⌜ ((w : ℕ) → Carries w 4 (drop at (now (query .entry))) r) ⌝ }
 {
     let second = at + 2;
     let third = at + 4;
@@ -142,7 +145,7 @@ fn write_at(query: &[u8], at: usize) -> Field
 // "conditional: Boolean, array if true, array if false"
 fn conditional_at(query: &[u8], at: usize) -> Field
     requires { ⌜ at + 6 ≤ length (now query) ⌝ }
-    ensures { λ r. ⌜ ((w : ℕ) → Holds w 5 (drop at (now (query .entry))) r) ⌝ }
+    ensures { λ r. ⌜ ((w : ℕ) → Carries w 5 (drop at (now (query .entry))) r) ⌝ }
 {
     let second = at + 2;
     let third = at + 4;
@@ -156,7 +159,7 @@ fn conditional_at(query: &[u8], at: usize) -> Field
 // "read: array, index base, assigned value"
 fn read_at(query: &[u8], at: usize, width: usize) -> Field
     requires { ⌜ (width ≤ 64) × (at + (4 + width / 8) ≤ length (now query)) ⌝ }
-    ensures { λ r. ⌜ Holds width 6 (drop at (now (query .entry))) r ⌝ }
+    ensures { λ r. ⌜ Carries width 6 (drop at (now (query .entry))) r ⌝ }
 {
     let second = at + 2;
     let third = at + 4;
@@ -171,7 +174,7 @@ fn read_at(query: &[u8], at: usize, width: usize) -> Field
 // "equality: left array, right array, truth (1 byte), left witness, right witness"
 fn equality_at(query: &[u8], at: usize) -> Field
     requires { ⌜ at + 9 ≤ length (now query) ⌝ }
-    ensures { λ r. ⌜ ((w : ℕ) → Holds w 7 (drop at (now (query .entry))) r) ⌝ }
+    ensures { λ r. ⌜ ((w : ℕ) → Carries w 7 (drop at (now (query .entry))) r) ⌝ }
 {
     let second = at + 2;
     let third = at + 4;
@@ -190,21 +193,21 @@ fn equality_at(query: &[u8], at: usize) -> Field
 // The field whose value stands at a place, by its tag.
 fn field_at(query: &[u8], at: usize, tag: u8, width: usize) -> Field
     requires { ⌜ (1 ≤ tag) × (tag ≤ 7) × (width ≤ 64) × (at + ownLength width (kindOf tag) ≤ length (now query)) ⌝ }
-    ensures { λ r. ⌜ Holds width tag (drop at (now (query .entry))) r ⌝ }
+    ensures { λ r. ⌜ Carries width tag (drop at (now (query .entry))) r ⌝ }
 {
     match tag {
-        1 => {
+        FREE_BASE => {
             let bytes = width / 8;
             Field::FreeBase(number_at(query, at, bytes))
         }
-        2 => {
+        FREE_BOOLEAN => {
             let truth = query[at];
             Field::FreeBoolean(truth)
         }
-        3 => Field::Variable,
-        4 => write_at(query, at),
-        5 => conditional_at(query, at),
-        6 => read_at(query, at, width),
+        VARIABLE => Field::Variable,
+        WRITE => write_at(query, at),
+        CONDITIONAL => conditional_at(query, at),
+        READ => read_at(query, at, width),
         _ => equality_at(query, at),
     }
 }

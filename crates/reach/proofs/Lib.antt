@@ -2,9 +2,12 @@
 pub mod Bits
 pub mod Counts
 pub mod Words
+pub mod Less
+pub mod Turns
 pub mod Spreading
 pub mod Rows
 pub mod Values
 pub mod Links
 pub mod Levels
 pub mod Counted
+pub mod Paper

@@ -1,48 +1,25 @@
 -- Rows against walks: a row that is spread over the adjacency words has a bit for each array term that is reached, and no other.
 -- Assumes nothing.
-use Prim.Native.Nat.{ℕ, zero, suc, _+_, _-_, _<_, _≤_}
-use native.Mathlib.Decide.{decLt}
+use Prim.Native.Nat.{ℕ, _+_, _-_, _<_, _≤_}
 use native.Mathlib.Omega.{arith}
-use mathlib.Core.Path.{_≡_, refl, sym, ap, _∙_, subst}
+use mathlib.Core.Path.{_≡_, refl, sym, ap, _∙_}
 use mathlib.Core.Logic.{_⊎_, inl, inr}
 use mathlib.Core.Bool.{Bool, true, false, cond, false≢true}
-use mathlib.Core.List.{List, [], _∷_, _++_, map, List·Memᴰ·head, List·Memᴰ·tail, List·Memᴰ·not-nil}
+use mathlib.Core.List.{List, [], _∷_, _++_}
 use borrow.Author.Tests.{ne-eqb}
 use lib.Dec.{eqb}
 use lib.ListN.{length, getD, length-append}
-use Rattle.paper.specs.Lists.{_∈_, keep, count, range}
+use Rattle.paper.specs.Lists.{count, range}
 use Rattle.paper.specs.Edges.{Edge}
-use Rattle.paper.specs.Reach.{Joins, Walk, stay, step, stepCost}
-use Rattle.meaning.proofs.Lists.{keep-in, keep-has, range-in, same-test}
+use Rattle.paper.specs.Reach.{Walk, stay, step, stepCost}
+use Rattle.meaning.proofs.Lists.{same-test}
 use Rattle.meaning.proofs.Walks.{walk-on, walk-back, Ranged, joins-below}
 use Rattle.meaning.proofs.Distances.{entry-reached, reached-entry}
-use Rattle.terms.specs.declared.Edges.{Edges}
-use Rattle.terms.specs.Graph.{edgeAt, openAt, opened}
-use Rattle.reach.specs.Reached.{reachedIn, bit, Ends, RowOf}
-use Rattle.reach.specs.Steps.{Joined, Adjacency, Way, here, onward, has, marks, Spreads}
+use Rattle.reach.specs.Reached.{Edges, reachedIn, bit, Ends, RowOf}
+use Rattle.reach.specs.Steps.{Adjacent, Trail, here, onward, has, marks, Spreads}
 use Rattle.reach.specs.declared.Spread.{Spread}
 use Rattle.reach.proofs.Bits.{bit-cases}
 use Rattle.reach.proofs.Counts.{count-same, count-past}
-
--- membership in a mapped list and in a range
-map-in : {A B : Type 0} (f : A → B) (xs : List A) {y : B} → y ∈ map f xs → (x : A) × (x ∈ xs) × (y ≡ f x)
-map-in f [] member = absurd (List·Memᴰ·not-nil member)
-map-in f (x ∷ xs) (List·Memᴰ·head same) = (x, List·Memᴰ·head refl, same)
-map-in f (x ∷ xs) (List·Memᴰ·tail further) = let found = map-in f xs further in (found .0, List·Memᴰ·tail (found .1), found .2)
-
-map-has : {A B : Type 0} (f : A → B) (xs : List A) {x : A} → x ∈ xs → f x ∈ map f xs
-map-has f (y ∷ xs) (List·Memᴰ·head same) = List·Memᴰ·head (ap f same)
-map-has f (y ∷ xs) (List·Memᴰ·tail further) = List·Memᴰ·tail (map-has f xs further)
-
-range-has : (first n x : ℕ) → first ≤ x → x < first + n → x ∈ range first n
-range-has first zero x low high = absurd (omega arith)
-range-has first (suc n) x low high = go (decLt first x) (λ further. range-has (suc first) n x further (omega arith))
-  where
-    go : Dec (first < x) → (first < x → x ∈ range (suc first) n) → x ∈ range first (suc n)
-    go (yes further) below = List·Memᴰ·tail (below further)
-    go (no past) below =
-        let same : x ≡ first = omega (arith, past) in
-        List·Memᴰ·head same
 
 -- two walks one after the other; where a walk ends
 walk-append : {among : List Edge} {a b c : ℕ} {walked further : List Edge} → Walk among a walked b → Walk among b further c → Walk among a (walked ++ further) c
@@ -54,54 +31,42 @@ walk-below ranged inside stay = inside
 walk-below ranged inside (step {edge = edge} first joined rest) = walk-below ranged (joins-below ranged edge first joined) rest
 
 module _ (e : Edges) (n x : ℕ) (ends : Ends e n) where
-  -- the edges that are open are those that join
-  pub open-ranged : Ranged n (opened e x)
-  open-ranged edge member =
-      let found = map-in (edgeAt e) (keep (openAt e x) (range 0 (e .count))) member in
-      let kept = keep-in (openAt e x) (range 0 (e .count)) (found .1) in
-      let below = range-in 0 (e .count) (kept .0) in
-      let k-in : found .0 < e .count = omega (arith, below .1) in (
-        subst (λ (it : Edge). it .left < n) (sym (found .2)) (ends .left (found .0) k-in),
-        subst (λ (it : Edge). it .right < n) (sym (found .2)) (ends .right (found .0) k-in),
-      )
-
-  pub joined-edge : {a b : ℕ} → Joined e x (e .count) a b → (edge : Edge) × (edge ∈ opened e x) × Joins edge a b
-  joined-edge (j, below, opens, joins) =
-      (edgeAt e j, map-has (edgeAt e) (keep (openAt e x) (range 0 (e .count))) (keep-has (openAt e x) (range 0 (e .count)) (range-has 0 (e .count) j (omega arith) (omega arith)) opens), joins)
-
-  pub edge-joined : (edge : Edge) {a b : ℕ} → edge ∈ opened e x → Joins edge a b → Joined e x (e .count) a b
-  edge-joined edge {a} {b} member joins =
-      let found = map-in (edgeAt e) (keep (openAt e x) (range 0 (e .count))) member in
-      let kept = keep-in (openAt e x) (range 0 (e .count)) (found .1) in
-      let below = range-in 0 (e .count) (kept .0) in
-      (found .0, omega (arith, below .1), kept .1, subst (λ (it : Edge). Joins it a b) (found .2) joins)
+  pub open-ranged : Ranged n (e x)
+  open-ranged = ends .ranged x
 
   -- to be reached is to have a walk
-  pub reached-walk : {origin a : ℕ} → reachedIn e n x origin a ≡ true → (walked : List Edge) × Walk (opened e x) a walked origin
+  pub reached-walk : {origin a : ℕ} → reachedIn e n x origin a ≡ true → (walked : List Edge) × Walk (e x) a walked origin
   unfolding reachedIn
-  reached-walk {origin} reached = entry-reached stepCost (opened e x) n origin reached
+  reached-walk {origin} reached = entry-reached stepCost (e x) n origin reached
 
-  pub walk-reached : {origin a : ℕ} {walked : List Edge} → a < n → Walk (opened e x) a walked origin → reachedIn e n x origin a ≡ true
+  pub walk-reached : {origin a : ℕ} {walked : List Edge} → a < n → Walk (e x) a walked origin → reachedIn e n x origin a ≡ true
   unfolding reachedIn
-  walk-reached {origin} inside way = reached-entry stepCost (opened e x) n origin open-ranged inside way
+  walk-reached {origin} inside way = reached-entry stepCost (e x) n origin open-ranged inside way
 
-  module _ (words : List ℕ) (known : Adjacency e x (e .count) words) where
+  -- reach goes both ways
+  pub reached-back : (a b : ℕ) → a < n → reachedIn e n x a b ≡ true → reachedIn e n x b a ≡ true
+  reached-back a b inside reached = walk-reached inside (walk-back (reached-walk reached .1) .1)
+
+  pub reached-same : (a b : ℕ) → a < n → b < n → reachedIn e n x a b ≡ reachedIn e n x b a
+  reached-same a b a-in b-in = same-test (reachedIn e n x a b) (reachedIn e n x b a) (reached-back a b a-in) (reached-back b a b-in)
+
+  module _ (words : List ℕ) (known : Adjacent (e x) words) where
     -- a way over the words is a walk of as many steps, and what has the origin and is closed has all that a walk comes to
-    pub way-walk : {origin steps a : ℕ} → Way words origin steps a → (walked : List Edge) × Walk (opened e x) origin walked a × (length walked ≡ steps)
+    pub way-walk : {origin steps a : ℕ} → Trail words origin steps a → (walked : List Edge) × Walk (e x) origin walked a × (length walked ≡ steps)
     way-walk here = ([], stay, refl)
     way-walk (onward {a = a} {b = b} way next) =
         let before = way-walk way in
-        let last = joined-edge (known .sound a b next) in
+        let last = known .sound a b next in
         (before .0 ++ (last .0 ∷ []), walk-on (before .1) (last .1) (last .2), omega (arith, length-append (before .0) (last .0 ∷ []), before .2))
 
     walk-closed : (row : ℕ) {a c : ℕ} {walked : List Edge} → ((a b : ℕ) → bit row a ≡ 1 → bit (getD words a 0) b ≡ 1 → bit row b ≡ 1)
-        → Walk (opened e x) a walked c → bit row a ≡ 1 → bit row c ≡ 1
+        → Walk (e x) a walked c → bit row a ≡ 1 → bit row c ≡ 1
     walk-closed row closed stay is = is
     walk-closed row closed (step {a} {b} {edge = edge} first joined rest) is =
-        walk-closed row closed rest (closed a b is (known .complete a b (edge-joined edge first joined)))
+        walk-closed row closed rest (closed a b is (known .complete a b (edge, first, joined)))
 
     module _ (origin : ℕ) (inside : origin < n) (made : Spread) (spreads : Spreads words origin made) where
-      marked-walk : (a : ℕ) → bit (made .row) a ≡ 1 → (walked : List Edge) × Walk (opened e x) origin walked a
+      marked-walk : (a : ℕ) → bit (made .row) a ≡ 1 → (walked : List Edge) × Walk (e x) origin walked a
       marked-walk a is =
           let found = way-walk (spreads .sound a is .1) in
           (found .0, found .1)
@@ -147,20 +112,20 @@ module _ (e : Edges) (n x : ℕ) (ends : Ends e n) where
 
   -- an origin that stands in a row reaches what the row's own origin does
   module _ (origin other row : ℕ) (inside : origin < n) (row-is : RowOf e n x origin row) (stands : bit row other ≡ 1) where
-    other-walk : (walked : List Edge) × Walk (opened e x) other walked origin
+    other-walk : (walked : List Edge) × Walk (e x) other walked origin
     other-walk = go (reachedIn e n x origin other) refl
       where
-        go : (b : Bool) → reachedIn e n x origin other ≡ b → (walked : List Edge) × Walk (opened e x) other walked origin
+        go : (b : Bool) → reachedIn e n x origin other ≡ b → (walked : List Edge) × Walk (e x) other walked origin
         go true reached = reached-walk reached
         go false reached = absurd (omega (arith, row-is other ∙ ap (λ (b : Bool). cond b 1 0) reached))
 
     pub same-reach : (a : ℕ) → reachedIn e n x origin a ≡ reachedIn e n x other a
     same-reach a = same-test (reachedIn e n x origin a) (reachedIn e n x other a) there back
       where
-        back-walk : (walked : List Edge) × Walk (opened e x) origin walked other
+        back-walk : (walked : List Edge) × Walk (e x) origin walked other
         back-walk = walk-back (other-walk .1)
 
-        inside-of : {to : ℕ} {walked : List Edge} → to < n → Walk (opened e x) a walked to → a < n
+        inside-of : {to : ℕ} {walked : List Edge} → to < n → Walk (e x) a walked to → a < n
         inside-of to-in way = walk-below open-ranged to-in (walk-back way .1)
 
         there : reachedIn e n x origin a ≡ true → reachedIn e n x other a ≡ true

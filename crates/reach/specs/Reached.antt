@@ -1,43 +1,69 @@
--- 01, Sources, edges, reach, over the code's tables: what a row, a pair count, a link and a hop count are to be.
+-- 01, Sources, edges, reach, over the open edges and the sources that the lent rows say: what a row, a pair count, a link and a hop count are to be.
 -- Assumes nothing.
 use Prim.Native.Nat.{ℕ, _/_, _%_, _^_, _<_, _≤_}
 use mathlib.Core.Path.{_≡_}
 use mathlib.Core.Bool.{Bool, cond}
 use mathlib.Core.List.{List, [], map}
 use mathlib.Core.Option.{Option, none, some}
-use lib.ListN.{getD}
-use Rattle.paper.specs.Lists.{isSome, count, sum, range}
+use lib.ListN.{getD, take}
+use Rattle.paper.specs.Sizes.{maxArrays, maxSources}
+use Rattle.paper.specs.Lists.{_∈_, isSome, count, sum, range, concatMap}
+use Rattle.paper.specs.Edges.{Edge}
 use Rattle.paper.specs.Reach.{near, stepCost}
-use Rattle.terms.specs.declared.Sources.{Sources}
-use Rattle.terms.specs.declared.Edges.{Edges}
-use Rattle.terms.specs.Graph.{opened}
+use Rattle.terms.specs.Tables.{Tables}
+use Rattle.terms.specs.Graph.{openIn}
+
+-- the edges open to each index value
+abbrev pub Edges : Type 0
+Edges = ℕ → List Edge
+
+-- those of the rows that are lent
+abbrev pub openTo : (values truths rows : List ℕ) (count : ℕ) → Edges
+openTo values truths rows count x = concatMap (openIn values truths x) (take count rows)
+
+-- the sources, as their rows and the values of the base terms say them
+pub record Sources : Type 0 where
+  pub sources : List ℕ
+  pub values : List ℕ
+  pub count : ℕ
+
+abbrev pub sourcesOf : (values sources : List ℕ) (count : ℕ) → Sources
+sourcesOf values sources count = record { sources = sources; values = values; count = count }
+
+-- the open edges and the sources of tables
+abbrev pub opensIn : Tables → Edges
+opensIn t = openTo (t .values) (t .truths) (t .edges) (t .counts .edges)
+
+abbrev pub sourcesIn : Tables → Sources
+sourcesIn t = sourcesOf (t .values) (t .sources) (t .counts .sources)
 
 -- is there a walk from the origin to a, over the edges open to index value x?
 unfoldable pub reachedIn : Edges → (n x origin a : ℕ) → Bool
-reachedIn e n x origin a = isSome (getD (near stepCost (opened e x) n origin n) a none)
+reachedIn e n x origin a = isSome (getD (near stepCost (e x) n origin n) a none)
 
 -- bit a of a row
 abbrev pub bit : (row a : ℕ) → ℕ
 bit row a = row / 2 ^ a % 2
 
--- the origin and the index value of source k
+-- the origin, the index value and the assigned value of source k
 abbrev pub originAt : Sources → ℕ → ℕ
-originAt s k = getD (s .origin) k 0
+originAt s k = getD (s .sources) k 0 % 256
 
 abbrev pub valueAt : Sources → ℕ → ℕ
-valueAt s k = getD (s .«index_value») k 0
+valueAt s k = getD (s .values) (getD (s .sources) k 0 / 256 % 256) 0
 
--- The tables are within their bounds, and every end is an array term
+abbrev pub assignedAt : Sources → ℕ → ℕ
+assignedAt s k = getD (s .values) (getD (s .sources) k 0 / 65536 % 256) 0
+
+-- every end is an array term
 pub record Ends (e : Edges) (n : ℕ) : Type 0 where
-  pub edges : e .count ≤ 112
-  pub arrays : n ≤ 48
-  pub left : (k : ℕ) → k < e .count → getD (e .left) k 0 < n
-  pub right : (k : ℕ) → k < e .count → getD (e .right) k 0 < n
+  pub arrays : n ≤ maxArrays
+  pub ranged : (x : ℕ) (edge : Edge) → edge ∈ e x → (edge .left < n) × (edge .right < n)
 
 -- and so is every origin
 pub record Fit (e : Edges) (s : Sources) (n : ℕ) : Type 0 where
   pub ends : Ends e n
-  pub sources : s .count ≤ 304
+  pub sources : s .count ≤ maxSources
   pub origin : (k : ℕ) → k < s .count → originAt s k < n
 
 -- a row has a bit for each array term that is reached, and no other
@@ -68,4 +94,4 @@ hopOf (some distance) = distance
 
 -- The hop counts of an index value: at a and b, the least number of steps of a walk from a to b
 abbrev pub HopCounts : Edges → (x n : ℕ) (counts : List (List ℕ)) → Type 0
-HopCounts e x n counts = (a b : ℕ) → a < n → b < n → getD (getD counts a []) b 0 ≡ hopOf (getD (near stepCost (opened e x) n b n) a none)
+HopCounts e x n counts = (a b : ℕ) → a < n → b < n → getD (getD counts a []) b 0 ≡ hopOf (getD (near stepCost (e x) n b n) a none)

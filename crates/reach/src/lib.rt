@@ -1,13 +1,23 @@
 // Marks: which array terms each source reaches over the edges open to its index value, how many pairs that makes, and hop counts.
 
-use terms::Edges;
+use paper::MAX_ARRAYS;
+use paper::MAX_BASES;
+use paper::MAX_BOOLEANS;
+use paper::MAX_EDGES;
+use paper::MAX_SOURCES;
+use terms::graph::index_value;
+use terms::graph::left_of;
+use terms::graph::open_way;
+use terms::graph::origin_of;
+use terms::graph::right_of;
+use terms::graph::shut_to;
+use terms::graph::way_of;
 ghost use mathlib.Core.Path.{_≡_};
-ghost use Prim.Native.Nat.{ℕ, _^_, _<_, _≤_};
-ghost use lib.ListN.{length, getD, set};
-ghost use mathlib.Core.Bool.{true, not, cond};
-ghost use lib.Dec.{eqb};
-ghost use Rattle.reach.specs.Reached.{Ends, Fit, Marked, HopCounts};
-ghost use Rattle.reach.specs.Steps.{edgesOf, sourcesOf, Adjacency, withBit, withEdge, Spreads, SharedOrMade, Markable, ValueMarkedOver, LevelPut, Hops};
+ghost use Prim.Native.Nat.{ℕ, _^_, _<_};
+ghost use lib.ListN.{length, getD, set, replicate};
+ghost use Rattle.paper.specs.Sizes.{maxArrays};
+ghost use Rattle.reach.specs.Reached.{openTo, sourcesOf, RowOf, Marked, HopCounts};
+ghost use Rattle.reach.specs.Steps.{Lent, Adjacent, bitSet, edgeSet, mayAt, Apart, Gathered, RowTurned, Turnable, Spreads, SharedOrMade, Markable, Unmarked, ValueMarkedOver, LevelPut, Hops};
 
 // A row, and how many array terms it marks.
 pub struct Spread {
@@ -16,8 +26,8 @@ pub struct Spread {
 }
 
 // The row of source k, and its store: whoever reads or writes a row does it here.
-pub fn row(rows: &[u64; 304], k: usize) -> u64
-    requires { ⌜ k < 304 ⌝ }
+pub fn row(rows: &[u64], k: usize) -> u64
+    requires { ⌜ k < length (now rows) ⌝ }
     ensures { λ r. ⌜ r ≡ getD (now (rows .entry)) k 0 ⌝ }
 {
     rows[k]
@@ -30,79 +40,152 @@ fn put_row(rows: &mut [u64], k: usize, row: u64)
     rows[k] = row;
 }
 
-// The index value to which a write's edge is closed: the one assigned to its index.
-fn closed_to(closed: &[u64; 112], k: usize) -> u64
-    requires { ⌜ k < 112 ⌝ }
-    ensures { λ r. ⌜ r ≡ getD (now (closed .entry)) k 0 ⌝ }
-{
-    closed[k]
-}
-
-// Does an edge's guard open it to index value x?
-fn is_open(guard: u8, closed: u64, x: u64) -> bool
-    ensures { λ r. ⌜ r ≡ cond (eqb guard 0) (not (eqb closed x)) true ⌝ }
-{
-    if guard == 0 { closed != x } else { true }
-}
-
-// Puts bit b into word a.
-fn put_bit(words: &mut [u64; 48], a: usize, b: usize)
-    requires { ⌜ (a < 48) × (b < 48) ⌝ }
-    ensures { λ r. ⌜ now (words .exit) ≡ withBit (now (words .entry)) a b ⌝ }
+// Puts bit b into word a, or takes it out.
+fn set_bit(words: &mut [u64; MAX_ARRAYS], a: usize, b: usize, on: bool)
+    requires { ⌜ (a < maxArrays) × (b < maxArrays) ⌝ }
+    ensures { λ r. ⌜ now (words .exit) ≡ bitSet on (now (words .entry)) a b ⌝ }
 {
     let mark = 1u64 << b;
-    words[a] = words[a] | mark;
+    let with = words[a] | mark;
+    if on {
+        words[a] = with;
+        return;
+    }
+    words[a] = with ^ mark;
 }
 
-// Puts an edge into the words of both its ends: it can be walked both ways.
-fn put_edge(words: &mut [u64; 48], left: usize, right: usize)
-    requires { ⌜ (left < 48) × (right < 48) ⌝ }
-    ensures { λ r. ⌜ now (words .exit) ≡ withEdge left right (now (words .entry)) ⌝ }
+// Puts an edge into the words of both its ends, or takes it out: it can be walked both ways.
+fn set_edge(words: &mut [u64; MAX_ARRAYS], left: usize, right: usize, on: bool)
+    requires { ⌜ (left < maxArrays) × (right < maxArrays) ⌝ }
+    ensures { λ r. ⌜ now (words .exit) ≡ edgeSet on left right (now (words .entry)) ⌝ }
 {
-    put_bit(words, left, right);
-    put_bit(words, right, left);
+    set_bit(words, left, right, on);
+    set_bit(words, right, left, on);
 }
 
-// One word for each array term, with a bit for each neighbour over an edge open to index value x.
+// One word for each array term, with a bit for each neighbour over an edge open to index value x; the words come cleared.
 fn adjacency<'a>(
-    left: &'a [u8; 112],
-    right: &'a [u8; 112],
-    guard: &'a [u8; 112],
-    closed: &'a [u64; 112],
+    values: &'a [u64; MAX_BASES],
+    truths: &'a [u8; MAX_BOOLEANS],
+    edges: &'a [u32; MAX_EDGES],
     count: usize,
     x: u64,
-) -> [u64; 48]
-    requires { ⌜ Ends (edgesOf (now left) (now right) (now guard) (now closed) count) 48 ⌝ }
-    ensures { λ r. ⌜ Adjacency (edgesOf (now (left .entry)) (now (right .entry)) (now (guard .entry)) (now (closed .entry)) count) x count r ⌝ }
+    words: &mut [u64; MAX_ARRAYS],
+)
+    requires { ⌜ Lent (now edges) count maxArrays × (now words ≡ replicate maxArrays 0) ⌝ }
+    ensures { λ r. ⌜ Adjacent (openTo (now (values .entry)) (now (truths .entry)) (now (edges .entry)) count x) (now (words .exit)) ⌝ }
 {
-    let mut words = [0u64; 48];
     let mut k = 0;
     while k < count {
-        let kind = guard[k];
-        let shut_to = closed_to(closed, k);
-        if is_open(kind, shut_to, x) {
-            let from = left[k] as usize;
-            let to = right[k] as usize;
-            put_edge(&mut words, from, to);
+        let row = edges[k];
+        let way = open_way(values, truths, x, row);
+        let open = way.open;
+        let left = way.left;
+        let right = way.right;
+        if open {
+            set_edge(words, left, right, true);
         }
         k += 1;
     }
-    words
+}
+
+// The words of all that may be open, by the truths alone; the words come cleared. Answers how many rows join what an earlier one joins.
+fn gather<'a>(
+    truths: &'a [u8; MAX_BOOLEANS],
+    edges: &'a [u32; MAX_EDGES],
+    count: usize,
+    words: &mut [u64; MAX_ARRAYS],
+) -> u64
+    requires { ⌜ Lent (now edges) count maxArrays × (now words ≡ replicate maxArrays 0) ⌝ }
+    ensures { λ r. ⌜ Gathered (now (truths .entry)) (now (edges .entry)) count (now (words .exit)) r ⌝ }
+{
+    let mut again = 0u64;
+    let mut k = 0;
+    while k < count {
+        let row = edges[k];
+        let way = way_of(truths, row);
+        let open = way.open;
+        let left = way.left;
+        let right = way.right;
+        if open {
+            let word = words[left];
+            let shifted = word >> right;
+            let found = shifted % 2;
+            again = again + found;
+            set_edge(words, left, right, true);
+        }
+        k += 1;
+    }
+    again
+}
+
+// Row k on the turn from index value `before` to x: a write that x shuts is taken out, and one that `before` had shut is put.
+fn turn_row<'a>(
+    values: &'a [u64; MAX_BASES],
+    edges: &'a [u32; MAX_EDGES],
+    count: usize,
+    before: u64,
+    x: u64,
+    k: usize,
+    words: &mut [u64; MAX_ARRAYS],
+)
+    requires { ⌜ Lent (now edges) count maxArrays × (k < count) ⌝ }
+    ensures { λ r. ⌜ RowTurned (now (values .entry)) before x (getD (now (edges .entry)) k 0) (now (words .entry)) (now (words .exit)) ⌝ }
+{
+    let row = edges[k];
+    let left = left_of(row);
+    let right = right_of(row);
+    let shut = shut_to(values, x, row);
+    let opened = shut_to(values, before, row);
+    if shut {
+        set_edge(words, left, right, false);
+        return;
+    }
+    if opened {
+        set_edge(words, left, right, true);
+    }
+}
+
+// Turns the words of the edges open to index value `before`, or of all that may be open, into those of the edges open to x. Only writes of
+// these two index values differ. Where two rows may join the same array terms the words are made anew.
+fn turn<'a>(
+    values: &'a [u64; MAX_BASES],
+    truths: &'a [u8; MAX_BOOLEANS],
+    edges: &'a [u32; MAX_EDGES],
+    count: usize,
+    again: u64,
+    before: u64,
+    x: u64,
+    words: &mut [u64; MAX_ARRAYS],
+)
+    requires { ⌜ Lent (now edges) count maxArrays × (again ≡ 0 → Apart (mayAt (now truths) (now edges)) count) × Turnable (now values) (now truths) (now edges) count before (now words) ⌝ }
+    ensures { λ r. ⌜ Adjacent (openTo (now (values .entry)) (now (truths .entry)) (now (edges .entry)) count x) (now (words .exit)) ⌝ }
+{
+    if again != 0 {
+        *words = [0u64; MAX_ARRAYS];
+        adjacency(values, truths, edges, count, x, words);
+        return;
+    }
+    let mut k = 0;
+    while k < count {
+        turn_row(values, edges, count, before, x, k, words);
+        k += 1;
+    }
 }
 
 // The propagation, after 002, figure 9. σ is the guess, i the index of the source that is carried, ρ(a) the sources that are carried to a.
 //
 //     I   ρ(b) has the sources whose origin is b                              Spreading.begun
-//     D   in ρ(write(a, j, e)), and σ(i) ≠ σ(j): carried to a                 Words.edge-opened, from left to right
-//     U   in ρ(a), and σ(i) ≠ σ(j): carried to write(a, j, e)                 Words.edge-opened, from right to left
-//     R   in ρ(a), and σ(a = c) = ⊤: carried to c                             Words.edge-opened, from left to right
-//     L   in ρ(c), and σ(a = c) = ⊤: carried to a                             Words.edge-opened, from right to left
+//     D   in ρ(write(a, j, e)), and σ(i) ≠ σ(j): carried to a                 Words.one-more, from left to right
+//     U   in ρ(a), and σ(i) ≠ σ(j): carried to write(a, j, e)                 Words.one-more, from right to left
+//     R   in ρ(a), and σ(a = c) = ⊤: carried to c                             Words.one-more, from left to right
+//     L   in ρ(c), and σ(a = c) = ⊤: carried to a                             Words.one-more, from right to left
 //     C   two in ρ(a): their values are compared                              above this crate, by the rows: Rows.row-of
 //
 // A conditional is carried over as R and L are, to the branch that is chosen. D, U, R and L are repeated to the fixpoint
 // (Spreading.spread-on, Spreading.finished): what is met and not yet marked is the frontier, and each array term is counted as it is marked.
-fn spread_from(neighbours: &[u64; 48], origin: usize) -> Spread
-    requires { ⌜ (origin < 48) × ((a : ℕ) → getD (now neighbours) a 0 < 2 ^ 48) ⌝ }
+fn spread_from(neighbours: &[u64; MAX_ARRAYS], origin: usize) -> Spread
+    requires { ⌜ (origin < maxArrays) × ((a : ℕ) → getD (now neighbours) a 0 < 2 ^ 48) ⌝ }
     ensures { λ r. ⌜ Spreads (now (neighbours .entry)) origin r ⌝ }
 {
     let mut met = 1u64 << origin;
@@ -120,8 +203,8 @@ fn spread_from(neighbours: &[u64; 48], origin: usize) -> Spread
 }
 
 // The row of an origin: the last one made for its index value, where the origin stands in that, and else a new one.
-fn share_or_spread(neighbours: &[u64; 48], last: Spread, origin: usize) -> Spread
-    requires { ⌜ (origin < 48) × ((a : ℕ) → getD (now neighbours) a 0 < 2 ^ 48) ⌝ }
+fn share_or_spread(neighbours: &[u64; MAX_ARRAYS], last: Spread, origin: usize) -> Spread
+    requires { ⌜ (origin < maxArrays) × ((a : ℕ) → getD (now neighbours) a 0 < 2 ^ 48) ⌝ }
     ensures { λ r. ⌜ SharedOrMade (now (neighbours .entry)) last origin r ⌝ }
 {
     let row = last.row;
@@ -136,27 +219,30 @@ fn share_or_spread(neighbours: &[u64; 48], last: Spread, origin: usize) -> Sprea
 
 // Marks and links every source of the index value of source `first`, which is the first of them, and counts their pairs.
 fn mark_value<'a>(
-    neighbours: &'a [u64; 48],
-    origins: &'a [u8; 304],
-    values: &'a [u64; 304],
+    neighbours: &'a [u64; MAX_ARRAYS],
+    values: &'a [u64; MAX_BASES],
+    sources: &'a [u32; MAX_SOURCES],
     count: usize,
     first: usize,
     rows: &mut [u64],
     next: &mut [u16],
 ) -> usize
-    requires { ⌜ Markable (now neighbours) (sourcesOf (now origins) (now values) count) first (now rows) (now next) ⌝ }
-    ensures { λ r. ⌜ ValueMarkedOver (now (neighbours .entry)) (sourcesOf (now (origins .entry)) (now (values .entry)) count) first (now (rows .entry)) (now (rows .exit)) (now (next .entry)) (now (next .exit)) r ⌝ }
+    requires { ⌜ Markable (now neighbours) (sourcesOf (now values) (now sources) count) first (now rows) (now next) ⌝ }
+    ensures { λ r. ⌜ ValueMarkedOver (now (neighbours .entry)) (sourcesOf (now (values .entry)) (now (sources .entry)) count) first (now (rows .entry)) (now (rows .exit)) (now (next .entry)) (now (next .exit)) r ⌝ }
 {
-    let x = values[first];
-    let origin = origins[first] as usize;
+    let begun = sources[first];
+    let x = index_value(values, begun);
+    let origin = origin_of(begun);
     let mut made = spread_from(neighbours, origin);
     let mut pairs = made.marked;
     put_row(rows, first, made.row);
     let mut last = first;
     let mut t = first + 1;
     while t < count {
-        if values[t] == x {
-            let from = origins[t] as usize;
+        let source = sources[t];
+        let value = index_value(values, source);
+        if value == x {
+            let from = origin_of(source);
             made = share_or_spread(neighbours, made, from);
             pairs = pairs + made.marked;
             put_row(rows, t, made.row);
@@ -169,49 +255,44 @@ fn mark_value<'a>(
     pairs
 }
 
-// Takes the links of the first `count` sources away: a source without a link is not yet marked.
-fn unlink(next: &mut [u16], count: usize)
-    requires { ⌜ count ≤ length (now next) ⌝ }
-    ensures { λ r. ⌜ ((k : ℕ) → k < count → getD (now (next .exit)) k 0 ≡ 0) ⌝ }
-{
-    let mut k = 0;
-    while k < count {
-        next[k] = 0;
-        k += 1;
-    }
-}
-
 // Marks from every source's origin over the edges open to its index value, to the fixpoint and in both directions; links each source to
-// the next of its index value; answers the number of pairs.
+// the next of its index value, where a source that has none is not yet marked; answers the number of pairs.
 pub fn mark<'a>(
-    edges: Edges,
-    origins: &'a [u8; 304],
-    values: &'a [u64; 304],
+    values: &'a [u64; MAX_BASES],
+    truths: &'a [u8; MAX_BOOLEANS],
+    edges: &'a [u32; MAX_EDGES],
+    ways: usize,
+    sources: &'a [u32; MAX_SOURCES],
     count: usize,
     arrays: usize,
-    rows: &mut [u64; 304],
-    next: &mut [u16; 304],
+    rows: &mut [u64],
+    next: &mut [u16],
 ) -> usize
-    requires { ⌜ Fit edges (sourcesOf (now origins) (now values) count) arrays ⌝ }
-    ensures { λ r. ⌜ Marked edges (sourcesOf (now (origins .entry)) (now (values .entry)) count) arrays (now (rows .exit)) (now (next .exit)) r ⌝ }
+    requires { ⌜ Unmarked (now edges) ways (sourcesOf (now values) (now sources) count) arrays (now rows) (now next) ⌝ }
+    ensures { λ r. ⌜ Marked (openTo (now (values .entry)) (now (truths .entry)) (now (edges .entry)) ways) (sourcesOf (now (values .entry)) (now (sources .entry)) count) arrays (now (rows .exit)) (now (next .exit)) r ⌝ }
 {
-    let edge_count = edges.count;
-    unlink(next, count);
     let mut pairs = 0usize;
     let mut first = 0;
+    let mut value = 0u64;
+    let mut neighbours = [0u64; MAX_ARRAYS];
+    let again = gather(truths, edges, ways, &mut neighbours);
     while first < count {
         let link = next[first];
         if link == 0 {
-            let x = values[first];
-            let neighbours = adjacency(
-                &edges.left,
-                &edges.right,
-                &edges.guard,
-                &edges.closed,
-                edge_count,
+            let source = sources[first];
+            let x = index_value(values, source);
+            turn(
+                values,
+                truths,
+                edges,
+                ways,
+                again,
+                value,
                 x,
+                &mut neighbours,
             );
-            let marked = mark_value(&neighbours, origins, values, count, first, rows, next);
+            value = x;
+            let marked = mark_value(&neighbours, values, sources, count, first, rows, next);
             pairs = pairs + marked;
         }
         first += 1;
@@ -219,9 +300,28 @@ pub fn mark<'a>(
     pairs
 }
 
+// The row of one array term: what is reached from it over the edges open to index value x.
+pub fn reached_from<'a>(
+    values: &'a [u64; MAX_BASES],
+    truths: &'a [u8; MAX_BOOLEANS],
+    edges: &'a [u32; MAX_EDGES],
+    count: usize,
+    x: u64,
+    arrays: usize,
+    array: usize,
+) -> u64
+    requires { ⌜ Lent (now edges) count arrays × (array < arrays) ⌝ }
+    ensures { λ r. ⌜ RowOf (openTo (now (values .entry)) (now (truths .entry)) (now (edges .entry)) count) arrays x array r ⌝ }
+{
+    let mut neighbours = [0u64; MAX_ARRAYS];
+    adjacency(values, truths, edges, count, x, &mut neighbours);
+    let made = spread_from(&neighbours, array);
+    made.row
+}
+
 // Gives each array term of a level its distance, and answers the neighbours of the level.
-fn put_level(neighbours: &[u64; 48], level: u64, distance: u8, hops: &mut [u8]) -> u64
-    requires { ⌜ (level < 2 ^ 48) × ((a : ℕ) → getD (now neighbours) a 0 < 2 ^ 48) × (length (now hops) ≡ 48) ⌝ }
+fn put_level(neighbours: &[u64; MAX_ARRAYS], level: u64, distance: u8, hops: &mut [u8]) -> u64
+    requires { ⌜ (level < 2 ^ 48) × ((a : ℕ) → getD (now neighbours) a 0 < 2 ^ 48) × (length (now hops) ≡ maxArrays) ⌝ }
     ensures { λ r. ⌜ LevelPut (now (neighbours .entry)) level distance (now (hops .entry)) (now (hops .exit)) r ⌝ }
 {
     let mut done = 0u64;
@@ -238,11 +338,11 @@ fn put_level(neighbours: &[u64; 48], level: u64, distance: u8, hops: &mut [u8]) 
 }
 
 // The hop counts from one array term, breadth first: a level is what is met for the first time.
-fn hops_from(neighbours: &[u64; 48], origin: usize) -> [u8; 48]
-    requires { ⌜ (origin < 48) × ((a : ℕ) → getD (now neighbours) a 0 < 2 ^ 48) ⌝ }
+fn hops_from(neighbours: &[u64; MAX_ARRAYS], origin: usize) -> [u8; MAX_ARRAYS]
+    requires { ⌜ (origin < maxArrays) × ((a : ℕ) → getD (now neighbours) a 0 < 2 ^ 48) ⌝ }
     ensures { λ r. ⌜ Hops (now (neighbours .entry)) origin r ⌝ }
 {
-    let mut hops = [255u8; 48];
+    let mut hops = [255u8; MAX_ARRAYS];
     let mut level = 1u64 << origin;
     let mut seen = level;
     let mut distance = 0u8;
@@ -257,20 +357,20 @@ fn hops_from(neighbours: &[u64; 48], origin: usize) -> [u8; 48]
 }
 
 // Hop counts from each array term to each, over the edges open to index value x: an array of 48 arrays, with 255 where there is no walk.
-pub fn hops(edges: Edges, x: u64, arrays: usize) -> [[u8; 48]; 48]
-    requires { ⌜ Ends edges arrays ⌝ }
-    ensures { λ r. ⌜ HopCounts edges x arrays r ⌝ }
+pub fn hops<'a>(
+    values: &'a [u64; MAX_BASES],
+    truths: &'a [u8; MAX_BOOLEANS],
+    edges: &'a [u32; MAX_EDGES],
+    count: usize,
+    x: u64,
+    arrays: usize,
+) -> [[u8; MAX_ARRAYS]; MAX_ARRAYS]
+    requires { ⌜ Lent (now edges) count arrays ⌝ }
+    ensures { λ r. ⌜ HopCounts (openTo (now (values .entry)) (now (truths .entry)) (now (edges .entry)) count) x arrays r ⌝ }
 {
-    let count = edges.count;
-    let neighbours = adjacency(
-        &edges.left,
-        &edges.right,
-        &edges.guard,
-        &edges.closed,
-        count,
-        x,
-    );
-    let mut table = [[255u8; 48]; 48];
+    let mut neighbours = [0u64; MAX_ARRAYS];
+    adjacency(values, truths, edges, count, x, &mut neighbours);
+    let mut table = [[255u8; MAX_ARRAYS]; MAX_ARRAYS];
     let mut a = 0;
     while a < arrays {
         table[a] = hops_from(&neighbours, a);

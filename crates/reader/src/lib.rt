@@ -2,10 +2,8 @@
 // first field, asked what stands at its place, and handed back at the next. Its functions are thin, and others call `field_at`.
 ghost use mathlib.Core.Path.{_≡_};
 ghost use Rattle.query.specs.Standing.{standing, standingOf};
+use paper::WIDTH;
 use query::Decoded;
-
-// Values have 32 bits.
-const WIDTH: usize = 32;
 
 pub struct Reader<'a> {
     pub query: &'a [u8],

@@ -3,6 +3,10 @@
 ghost use Prim.Native.Nat.{_≤_};
 use libc::STDIN_FILENO;
 use libc::STDOUT_FILENO;
+use paper::MAX_BASES;
+use paper::MAX_BOOLEANS;
+use paper::MAX_EDGES;
+use paper::MAX_SOURCES;
 
 // More than any query of the tests.
 const ROOM: usize = 5000;
@@ -27,18 +31,25 @@ fn wide(byte: u8) -> usize
     byte as usize
 }
 
-// Reads so many bytes, and answers whether they were there.
-fn fill(bytes: &mut [u8], length: usize) -> bool {
-    if bytes.len() < length {
-        return false;
-    }
-    let held = io::read_full(STDIN_FILENO, &mut bytes[..length]);
-    length <= held
+fn load_query(query: &[u8]) {
+    let mut values = [0u64; MAX_BASES];
+    let mut truths = [0u8; MAX_BOOLEANS];
+    let mut reads = [0u16; MAX_BASES];
+    let mut sources = [0u32; MAX_SOURCES];
+    let mut edges = [0u32; MAX_EDGES];
+    say(terms::load(
+        query,
+        &mut values,
+        &mut truths,
+        &mut reads,
+        &mut sources,
+        &mut edges,
+    ));
 }
 
 fn load_front(bytes: &[u8], length: usize) {
     if length <= bytes.len() {
-        say(terms::load(&bytes[..length]));
+        load_query(&bytes[..length]);
     }
 }
 
@@ -51,7 +62,7 @@ fn load_one() -> bool {
     }
     let length = wide(head[0]) * 256 + wide(head[1]);
     let mut bytes = [0u8; ROOM];
-    if fill(&mut bytes, length) {
+    if print::fill(&mut bytes, length) {
         load_front(&bytes, length);
         return true;
     }

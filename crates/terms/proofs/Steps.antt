@@ -1,11 +1,11 @@
 -- Loading, one field after another: what is left to do at a place is what the whole comes to.
 -- Assumes nothing.
 use Prim.Native.Nat.{ℕ, zero, suc, _+_, _-_, _<_, _≤_}
-use native.Mathlib.Nat.{le-refl, le-suc, lt-of-lt-of-le, not-le-of-lt}
+use native.Mathlib.Nat.{le-refl, le-suc, not-le-of-lt}
 use native.Mathlib.Omega.{arith}
-use mathlib.Core.Path.{_≡_, refl, sym, ap, _∙_, subst}
+use mathlib.Core.Path.{_≡_, sym, ap, _∙_}
 use mathlib.Core.Logic.{_⊎_, inl, inr, _≢_}
-use mathlib.Core.List.{List, [], _∷_}
+use mathlib.Core.List.{List, _∷_}
 use lib.ListN.{length, drop}
 use Rattle.paper.specs.Lists.{firstMet}
 use Rattle.paper.specs.Fields.{Kind, Item, itemsFrom}
@@ -13,9 +13,9 @@ use Rattle.paper.specs.Terms.{Query}
 use Rattle.paper.specs.Load.{faults, extend, empty, Loaded, loadItems, load}
 use Rattle.meaning.proofs.Built.{items-enough, load-cases, load-field}
 use Rattle.meaning.proofs.Refusals.{refusals}
-use Rattle.query.specs.Standing.{Standing, end, broken, field, standing}
+use Rattle.query.specs.Standing.{end, broken, field, standing}
 use Rattle.query.proofs.Laws.{items-end, items-broken, items-field}
-use Rattle.terms.specs.Table.{loadedAs}
+use Rattle.terms.specs.Loads.{loadedAs}
 
 -- what loading the bytes comes to is what loading the rest from a place on comes to, after this query
 abbrev pub Left : List ℕ → (at : ℕ) → Query → Type 0

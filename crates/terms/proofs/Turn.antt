@@ -1,100 +1,97 @@
--- One turn of the loader's loop: a field that stands at a place is refused, or stored.
+-- One turn of the loader's loop: what is known at its head, and what a place of the bytes makes of it.
 -- Assumes nothing.
-use Prim.Native.Nat.{ℕ, _+_, _%_, _<_, _≤_}
-use mathlib.Core.Path.{_≡_, refl, sym, ap, _∙_, subst}
+use Prim.Native.Nat.{ℕ, _<_, _≤_}
+use native.Mathlib.Omega.{arith}
+use mathlib.Core.Path.{_≡_, refl, sym, _∙_, subst}
 use mathlib.Core.Logic.{_≢_}
-use mathlib.Core.Bool.{true, cond}
-use mathlib.Core.List.{List}
-use lib.ListN.{length, set}
+use mathlib.Core.List.{List, []}
+use lib.ListN.{length}
 use Rattle.paper.specs.Lists.{firstMet}
-use Rattle.paper.specs.Terms.{Query}
-use Rattle.paper.specs.Load.{faults, load}
-use Rattle.query.specs.Standing.{standing, standingOf, kindOfField, numbersOf}
+use Rattle.paper.specs.Fields.{Series, base, boolean, array}
+use Rattle.paper.specs.Terms.{given, Query}
+use Rattle.paper.specs.Load.{faults, extend, empty, load}
+use Rattle.paper.specs.Edges.{sources, edges}
+use Rattle.query.specs.Standing.{standing, kindOfField, numbersOf}
 use Rattle.query.specs.Standing as Standing
 use Rattle.query.specs.declared.Field.{Field}
-use Rattle.query.specs.declared.Decoded.{Decoded}
-use Rattle.query.specs.declared.Decoded.the-variants.{Next}
-use Rattle.terms.specs.declared.Terms.{Terms}
-use Rattle.terms.specs.declared.Guess.{Guess}
-use Rattle.terms.specs.declared.Row.{Row}
-use Rattle.terms.specs.Table.{countOf, ownIn, putIf, rowOf, faultIn, stored, guessed, queryOf, loadedAs}
-use Rattle.terms.specs.Valid.{Valid}
-use Rattle.terms.proofs.Tables.{fault-same, room, next-query, next-valid}
-use Rattle.terms.proofs.Steps.{Left, left-fault, left-next}
+use Rattle.terms.proofs.Steps.{Left, left-first, too-long, left-end, left-broken, left-fault, left-next}
+use Rattle.terms.specs.declared.Counts.{Counts}
+use Rattle.terms.specs.Tables.{Tables, tables, putIn, Room, Sized}
+use Rattle.terms.specs.Faults.{countIn, faultBy}
+use Rattle.terms.specs.Holds.{Holds}
+use Rattle.terms.specs.Loads.{Loads, loadedAs}
+use Rattle.terms.proofs.Fits.{fit-room}
+use Rattle.terms.proofs.Faulty.{fault-same}
+use Rattle.terms.proofs.Next.{holds-next}
 
--- what the loop knows at its head
-abbrev pub Head : List ℕ → Terms → Guess → (at : ℕ) → Type 0
-Head bytes terms guess at = Valid terms guess × Left bytes at (queryOf terms guess) × (length bytes ≤ 4096)
+abbrev pub noCounts : Counts
+noCounts = record { bases = 0; booleans = 0; arrays = 0; sources = 0; edges = 0 }
 
--- what it knows once a field was read and its fault sought
-pub record Read (bytes : List ℕ) (terms : Terms) (guess : Guess) (at : ℕ) (field : Field) (next : ℕ) (row : Row) (found : ℕ) : Type 0 where
-  pub head : Head bytes terms guess at
-  pub stands : standing 32 bytes at ≡ Standing.field (kindOfField field) (numbersOf field) next
-  pub row-is : row ≡ rowOf field
-  pub found-is : found ≡ faultIn terms guess field row
+none-given : (s : Series) → given s [] ≡ countIn noCounts s
+unfolding given
+none-given base = refl
+none-given boolean = refl
+none-given array = refl
 
-module _ {bytes : List ℕ} {terms : Terms} {guess : Guess} {at : ℕ} {field : Field} {next : ℕ} {row : Row} {found : ℕ} (known : Read bytes terms guess at field next row found) where
-  fault-is : faultIn terms guess field (rowOf field) ≡ found
-  fault-is = sym (known .found-is ∙ ap (faultIn terms guess field) (known .row-is))
+-- tables of which no row is in use hold the empty query, whatever stands in them
+pub none-held : {values truths reads source-rows edge-rows : List ℕ} → Sized values truths reads source-rows edge-rows → Holds empty (tables values truths reads source-rows edge-rows noCounts)
+unfolding sources edges
+none-held sized =
+    record {
+      counts = record { given-as = none-given; bases-most = omega arith; booleans-most = omega arith; arrays-most = omega arith; few-sources = omega arith; few-edges = omega arith };
+      values = record { long = sized .values-long; same = refl };
+      truths = record { long = sized .truths-long; same = refl };
+      reads = record { long = sized .reads-long; within = λ b a below small. absurd (omega arith); past = λ b a beyond small. refl };
+      sources = record { long = sized .sources-long; same = refl };
+      edges = record { long = sized .edges-long; same = refl };
+    }
 
-  first-is : firstMet (faults (queryOf terms guess) (kindOfField field) (numbersOf field)) ≡ found
-  first-is = sym (fault-same terms guess (known .head .0) field) ∙ fault-is
+-- what the loop knows at its head: the tables hold the query of the fields before
+pub record Head (bytes : List ℕ) (t : Tables) (at : ℕ) : Type 0 where
+  pub query : Query
+  pub holds : Holds query t
+  pub left : Left bytes at query
 
-  -- a fault refuses
-  pub refuses : found ≢ 0 → (any-query : Query) → loadedAs found at any-query ≡ load 32 bytes
-  refuses faulty any-query =
-      subst (λ (n : ℕ). loadedAs n at any-query ≡ load 32 bytes) first-is
-      (left-fault bytes at (queryOf terms guess) (known .head .1) (kindOfField field) (numbersOf field) next (known .stands) (λ none. faulty (sym first-is ∙ none)) any-query)
+pub starts : (bytes : List ℕ) (t : Tables) → length bytes ≤ 4096 → Holds empty t → Head bytes t 0
+starts bytes t short held = record { query = empty; holds = held; left = left-first bytes short }
 
-  module _ (faultless : found ≡ 0) where
-    -- there is room for the row
-    pub has-room : (countOf terms < 368) × (row .base ≡ true → terms .bases < 256) × (row .boolean ≡ true → terms .booleans < 64)
-    has-room = subst (λ (r : Row). (countOf terms < 368) × (r .base ≡ true → terms .bases < 256) × (r .boolean ≡ true → terms .booleans < 64)) (sym (known .row-is)) (room terms guess (known .head .0) field (fault-is ∙ faultless))
+pub long-refused : (bytes : List ℕ) (t : Tables) → 4096 < length bytes → Holds empty t → Loads bytes 1 0 t
+long-refused bytes t long held = record { query = empty; holds = held; loaded = sym (too-long bytes long) }
 
-    -- and with it stored the loop's head holds at the next place, which is further
-    pub turns : Head bytes (stored terms row) (guessed terms guess row) next × (at < next) × (next ≤ length bytes)
-    turns =
-        subst (λ (r : Row). Head bytes (stored terms r) (guessed terms guess r) next × (at < next) × (next ≤ length bytes)) (sym (known .row-is)) (after (left-next bytes at (queryOf terms guess) (known .head .1) (kindOfField field) (numbersOf field) next (known .stands) (first-is ∙ faultless)))
-      where
-        after : Left bytes next (Rattle.paper.specs.Load.extend (queryOf terms guess) (kindOfField field) (numbersOf field)) × (at < next) × (next ≤ length bytes)
-            → Head bytes (stored terms (rowOf field)) (guessed terms guess (rowOf field)) next × (at < next) × (next ≤ length bytes)
-        after (left, further, inside) = (
-          (
-            next-valid terms guess (known .head .0) field (fault-is ∙ faultless),
-            subst (Left bytes next) (sym (next-query terms guess (known .head .0) field (fault-is ∙ faultless))) left,
-            known .head .2,
-          ),
-          further,
-          inside,
-        )
+module _ {bytes : List ℕ} {t : Tables} {at : ℕ} (head : Head bytes t at) where
+  pub at-end : standing 32 bytes at ≡ Standing.end → Loads bytes 0 0 t
+  at-end stands = record { query = head .query; holds = head .holds; loaded = sym (left-end bytes at (head .query) (head .left) stands) }
 
--- the tables as the loop leaves them, each part by its own function, are those with the row stored
-pub put-together : (bytes : List ℕ) (terms : Terms) (guess : Guess) (row : Row) (next : ℕ) {own one two three : ℕ} {from index values truths : List ℕ}
-    → own ≡ ownIn terms row % 256
-    → from ≡ putIf (row .base) (terms .from) (terms .bases) (row .from)
-    → index ≡ putIf (row .base) (terms .index) (terms .bases) (row .second)
-    → one ≡ cond (row .base) 1 0
-    → two ≡ cond (row .boolean) 1 0
-    → three ≡ cond (row .array) 1 0
-    → values ≡ putIf (row .base) (guess .values) (terms .bases) (row .value)
-    → truths ≡ putIf (row .boolean) (guess .truths) (terms .booleans) (row .truth)
-    → Head bytes (stored terms row) (guessed terms guess row) next
-    → Head bytes
-    (record {
-      tag = set (terms .tag) (countOf terms) (row .tag);
-      own = set (terms .own) (countOf terms) own;
-      first = set (terms .first) (countOf terms) (row .first);
-      second = set (terms .second) (countOf terms) (row .second);
-      third = set (terms .third) (countOf terms) (row .third);
-      fourth = set (terms .fourth) (countOf terms) (row .fourth);
-      from = from;
-      index = index;
-      bases = terms .bases + one;
-      booleans = terms .booleans + two;
-      arrays = terms .arrays + three;
-    })
-    (record { values = values; truths = truths })
-    next
-unfolding stored guessed
-put-together bytes terms guess row next own-is from-is index-is one-is two-is three-is values-is truths-is head =
-    rw (own-is, from-is, index-is, one-is, two-is, three-is, values-is, truths-is) head
+  pub at-broken : (place refusal : ℕ) → standing 32 bytes at ≡ Standing.broken place refusal → Loads bytes refusal place t
+  at-broken place refusal stands =
+      record { query = head .query; holds = head .holds; loaded = left-broken bytes at (head .query) (head .left) place refusal stands (head .query) }
+
+  module _ (field : Field) (next found : ℕ) (stands : standing 32 bytes at ≡ Standing.field (kindOfField field) (numbersOf field) next)
+      (found-is : found ≡ faultBy (t .reads) (t .values) (t .counts) field) where
+    first-is : firstMet (faults (head .query) (kindOfField field) (numbersOf field)) ≡ found
+    first-is = sym (found-is ∙ fault-same (head .query) t (head .holds) field)
+
+    pub at-fault : found ≢ 0 → Loads bytes found at t
+    at-fault faulty =
+        record {
+          query = head .query;
+          holds = head .holds;
+          loaded =
+              subst (λ (n : ℕ). loadedAs n at (head .query) ≡ load 32 bytes) first-is
+              (left-fault bytes at (head .query) (head .left) (kindOfField field) (numbersOf field) next stands (λ none. faulty (sym first-is ∙ none)) (head .query));
+        }
+
+    module _ (faultless : found ≡ 0) where
+      pub at-room : Room field (t .counts)
+      at-room = fit-room (t .reads) (t .values) (t .counts) field (sym found-is ∙ faultless) (head .holds .counts)
+
+      pub at-next : Head bytes (putIn field t) next × (at < next) × (next ≤ length bytes)
+      at-next = go (left-next bytes at (head .query) (head .left) (kindOfField field) (numbersOf field) next stands (first-is ∙ faultless))
+        where
+          go : Left bytes next (extend (head .query) (kindOfField field) (numbersOf field)) × (at < next) × (next ≤ length bytes)
+              → Head bytes (putIn field t) next × (at < next) × (next ≤ length bytes)
+          go (left, further, inside) = (
+            record { query = extend (head .query) (kindOfField field) (numbersOf field); holds = holds-next (head .holds) field (sym found-is ∙ faultless); left = left },
+            further,
+            inside,
+          )

@@ -1,160 +1,201 @@
-// The terms and the guess of a query, as two things, loaded from its bytes; and what the layers above need of them: sources and edges.
+// The terms and the guess of a query, loaded from its bytes into tables that are lent: values, truths, reads, sources and edges, filled in the
+// one pass over the fields.
 ghost use mathlib.Core.Path.{_≡_};
-ghost use mathlib.Core.Bool.{true, cond};
-ghost use Prim.Native.Nat.{_%_, _<_};
-ghost use Rattle.paper.specs.Load as Load;
-ghost use Rattle.terms.specs.Valid.{Valid};
-ghost use Rattle.terms.specs.Table.{putIf, noTerms, noGuess, loadedOf};
+ghost use Rattle.terms.specs.Tables.{tables, readRow, putIn, Room, Sized};
+ghost use Rattle.terms.specs.Loads.{Loads};
 
-mod fields;
 pub mod graph;
 mod refuse;
 
-use fields::to_row;
+use graph::CHOOSES;
+use graph::DIFFERS;
+use graph::EQUATES;
+use graph::edge_row;
+use graph::source_row;
+use paper::MAX_BASES;
+use paper::MAX_BOOLEANS;
+use paper::MAX_BYTES;
+use paper::MAX_EDGES;
+use paper::MAX_SOURCES;
+use paper::TOO_LONG;
 use query::Decoded;
+use query::Field;
 use refuse::fault;
 
-// "at most 4,096 bytes"
-const MAX_BYTES: usize = 4096;
+// Stands for the array read by a base term that is no read.
+const NO_READ: u16 = 255;
 
-// The tag of an equality.
-const EQUALITY: u8 = 7;
-
-// The terms, in field order: each one's tag, its number in its series, and up to four numbers that it names. Beside them, for each base
-// term, the array that it reads and the base term of its index.
-pub struct Terms {
-    pub tag: [u8; 368],
-    pub own: [u8; 368],
-    pub first: [u8; 368],
-    pub second: [u8; 368],
-    pub third: [u8; 368],
-    pub fourth: [u8; 368],
-    pub from: [u8; 256],
-    pub index: [u8; 256],
-    pub bases: usize,
-    pub booleans: usize,
-    pub arrays: usize,
+// How many terms of each series are given, and how many rows the tables of sources and edges have.
+pub struct Counts {
+    pub bases: u16,
+    pub booleans: u16,
+    pub arrays: u16,
+    pub sources: u16,
+    pub edges: u16,
 }
 
-// The assigned values of the base terms and the truths of the Booleans, in order.
-pub struct Guess {
-    pub values: [u64; 256],
-    pub truths: [u8; 64],
-}
-
-// What loading ends in: refusal 0 with the terms and the guess that are accepted, or the refusal with its offset.
+// What loading ends in: refusal 0 with the counts of the query that is accepted, or the refusal with its offset.
 pub struct Loaded {
     pub refusal: u8,
     pub offset: usize,
-    pub terms: Terms,
-    pub guess: Guess,
+    pub counts: Counts,
 }
 
-// What one field puts into the tables: its tag, the numbers that it names, what it reads, its assigned value or truth, and which series it
-// gives a term of.
-pub struct Row {
-    pub tag: u8,
-    pub first: u8,
-    pub second: u8,
-    pub third: u8,
-    pub fourth: u8,
-    pub from: u8,
-    pub value: u64,
-    pub truth: u8,
-    pub base: bool,
-    pub boolean: bool,
-    pub array: bool,
-}
-
-// Keep a number in its place, where it is wanted.
-fn keep_byte(into: &mut [u8; 256], at: usize, byte: u8, wanted: bool)
-    requires { ⌜ (wanted ≡ true → at < 256) ⌝ }
-    ensures { λ r. ⌜ now (into .exit) ≡ putIf wanted (now (into .entry)) at byte ⌝ }
+fn read_row(from: usize, index: usize) -> u16
+    ensures { λ r. ⌜ r ≡ readRow from index ⌝ }
 {
-    if wanted {
-        into[at] = byte;
-    }
+    let low = (from % 256) as u16;
+    let high = (index % 256) as u16;
+    low + 256 * high
 }
 
-fn keep_value(into: &mut [u64; 256], at: usize, value: u64, wanted: bool)
-    requires { ⌜ (wanted ≡ true → at < 256) ⌝ }
-    ensures { λ r. ⌜ now (into .exit) ≡ putIf wanted (now (into .entry)) at value ⌝ }
+// Stores what an accepted field gives.
+fn put(
+    field: Field,
+    counts: Counts,
+    values: &mut [u64; MAX_BASES],
+    truths: &mut [u8; MAX_BOOLEANS],
+    reads: &mut [u16; MAX_BASES],
+    sources: &mut [u32; MAX_SOURCES],
+    edges: &mut [u32; MAX_EDGES],
+) -> Counts
+    requires { ⌜ Room field counts ⌝ }
+    ensures { λ r. ⌜ tables (now (values .exit)) (now (truths .exit)) (now (reads .exit)) (now (sources .exit)) (now (edges .exit)) r ≡ putIn field (tables (now (values .entry)) (now (truths .entry)) (now (reads .entry)) (now (sources .entry)) (now (edges .entry)) counts) ⌝ }
 {
-    if wanted {
-        into[at] = value;
-    }
-}
-
-fn keep_truth(into: &mut [u8; 64], at: usize, truth: u8, wanted: bool)
-    requires { ⌜ (wanted ≡ true → at < 64) ⌝ }
-    ensures { λ r. ⌜ now (into .exit) ≡ putIf wanted (now (into .entry)) at truth ⌝ }
-{
-    if wanted {
-        into[at] = truth;
-    }
-}
-
-fn one_if(test: bool) -> usize
-    ensures { λ r. ⌜ r ≡ cond test 1 0 ⌝ }
-{
-    if test {
-        return 1;
-    }
-    0
-}
-
-// The number that the next term of a row's series gets.
-fn own_number(row: Row, bases: usize, booleans: usize, arrays: usize) -> u8
-    ensures { λ r. ⌜ r ≡ cond (row .base) bases (cond (row .boolean) booleans arrays) % 256 ⌝ }
-{
-    if row.base {
-        return (bases % 256) as u8;
-    }
-    if row.boolean {
-        return (booleans % 256) as u8;
-    }
-    (arrays % 256) as u8
-}
-
-fn no_terms() -> Terms
-    ensures { λ r. ⌜ r ≡ noTerms ⌝ }
-{
-    Terms {
-        tag: [0; 368],
-        own: [0; 368],
-        first: [0; 368],
-        second: [0; 368],
-        third: [0; 368],
-        fourth: [0; 368],
-        from: [0; 256],
-        index: [0; 256],
-        bases: 0,
-        booleans: 0,
-        arrays: 0,
-    }
-}
-
-fn no_guess() -> Guess
-    ensures { λ r. ⌜ r ≡ noGuess ⌝ }
-{
-    Guess {
-        values: [0; 256],
-        truths: [0; 64],
+    let bases = counts.bases;
+    let booleans = counts.booleans;
+    let arrays = counts.arrays;
+    let sourced = counts.sources;
+    let edged = counts.edges;
+    let base = bases as usize;
+    let boolean = booleans as usize;
+    let array = arrays as usize;
+    let source = sourced as usize;
+    let edge = edged as usize;
+    match field {
+        Field::FreeBase(value) => {
+            values[base] = value;
+            reads[base] = NO_READ;
+            let more_bases = bases + 1;
+            return Counts {
+                bases: more_bases,
+                booleans,
+                arrays,
+                sources: sourced,
+                edges: edged,
+            };
+        }
+        Field::FreeBoolean(truth) => {
+            truths[boolean] = truth;
+            let more_booleans = booleans + 1;
+            return Counts {
+                bases,
+                booleans: more_booleans,
+                arrays,
+                sources: sourced,
+                edges: edged,
+            };
+        }
+        Field::Variable => {
+            let more_arrays = arrays + 1;
+            return Counts {
+                bases,
+                booleans,
+                arrays: more_arrays,
+                sources: sourced,
+                edges: edged,
+            };
+        }
+        Field::Write(p) => {
+            let beneath = p.beneath as usize;
+            let index = p.index as usize;
+            let value = p.value as usize;
+            sources[source] = source_row(array, index, value);
+            edges[edge] = edge_row(array, beneath, 0, index, DIFFERS);
+            let more_arrays = arrays + 1;
+            let more_sources = sourced + 1;
+            let more_edges = edged + 1;
+            return Counts {
+                bases,
+                booleans,
+                arrays: more_arrays,
+                sources: more_sources,
+                edges: more_edges,
+            };
+        }
+        Field::Conditional(p) => {
+            let chooser = p.chooser as usize;
+            let if_true = p.if_true as usize;
+            let if_false = p.if_false as usize;
+            edges[edge] = edge_row(array, if_true, if_false, chooser, CHOOSES);
+            let more_arrays = arrays + 1;
+            let more_edges = edged + 1;
+            return Counts {
+                bases,
+                booleans,
+                arrays: more_arrays,
+                sources: sourced,
+                edges: more_edges,
+            };
+        }
+        Field::Read(p) => {
+            let from = p.from as usize;
+            let index = p.index as usize;
+            values[base] = p.value;
+            reads[base] = read_row(from, index);
+            sources[source] = source_row(from, index, base);
+            let more_bases = bases + 1;
+            let more_sources = sourced + 1;
+            return Counts {
+                bases: more_bases,
+                booleans,
+                arrays,
+                sources: more_sources,
+                edges: edged,
+            };
+        }
+        Field::Equality(p) => {
+            let left = p.left as usize;
+            let right = p.right as usize;
+            truths[boolean] = p.truth;
+            edges[edge] = edge_row(left, right, 0, boolean, EQUATES);
+            let more_booleans = booleans + 1;
+            let more_edges = edged + 1;
+            return Counts {
+                bases,
+                booleans: more_booleans,
+                arrays,
+                sources: sourced,
+                edges: more_edges,
+            };
+        }
     }
 }
 
 // Loads a query: its fields one after another, up to the first with a fault.
-pub fn load(query: &[u8]) -> Loaded
-    ensures { λ r. ⌜ (loadedOf r ≡ Load.load 32 (now (query .entry))) × Valid (r .terms) (r .guess) ⌝ }
+pub fn load(
+    query: &[u8],
+    values: &mut [u64; MAX_BASES],
+    truths: &mut [u8; MAX_BOOLEANS],
+    reads: &mut [u16; MAX_BASES],
+    sources: &mut [u32; MAX_SOURCES],
+    edges: &mut [u32; MAX_EDGES],
+) -> Loaded
+    requires { ⌜ Sized (now values) (now truths) (now reads) (now sources) (now edges) ⌝ }
+    ensures { λ r. ⌜ Loads (now (query .entry)) (r .refusal) (r .offset) (tables (now (values .exit)) (now (truths .exit)) (now (reads .exit)) (now (sources .exit)) (now (edges .exit)) (r .counts)) ⌝ }
 {
-    let mut terms = no_terms();
-    let mut guess = no_guess();
+    let mut counts = Counts {
+        bases: 0,
+        booleans: 0,
+        arrays: 0,
+        sources: 0,
+        edges: 0,
+    };
     if MAX_BYTES < query.len() {
         return Loaded {
-            refusal: 1,
+            refusal: TOO_LONG,
             offset: 0,
-            terms,
-            guess,
+            counts,
         };
     }
     let mut at: usize = 0;
@@ -164,78 +205,28 @@ pub fn load(query: &[u8]) -> Loaded
                 return Loaded {
                     refusal: 0,
                     offset: 0,
-                    terms,
-                    guess,
+                    counts,
                 };
             }
             Decoded::Refused(refused) => {
                 return Loaded {
                     refusal: refused.number,
                     offset: refused.offset,
-                    terms,
-                    guess,
+                    counts,
                 };
             }
             Decoded::Next(field, next) => {
-                let row = to_row(field);
-                let bases = terms.bases;
-                let booleans = terms.booleans;
-                let arrays = terms.arrays;
-                let found = fault(
-                    &terms.from,
-                    &terms.index,
-                    &guess.values,
-                    bases,
-                    booleans,
-                    arrays,
-                    field,
-                    row,
-                );
+                let found = fault(reads, values, counts, field);
                 if found != 0 {
                     return Loaded {
                         refusal: found,
                         offset: at,
-                        terms,
-                        guess,
+                        counts,
                     };
                 }
-                let count = bases + booleans + arrays;
-                terms.tag[count] = row.tag;
-                terms.own[count] = own_number(row, bases, booleans, arrays);
-                terms.first[count] = row.first;
-                terms.second[count] = row.second;
-                terms.third[count] = row.third;
-                terms.fourth[count] = row.fourth;
-                keep_byte(&mut terms.from, bases, row.from, row.base);
-                keep_byte(&mut terms.index, bases, row.second, row.base);
-                terms.bases = bases + one_if(row.base);
-                terms.booleans = booleans + one_if(row.boolean);
-                terms.arrays = arrays + one_if(row.array);
-                keep_value(&mut guess.values, bases, row.value, row.base);
-                keep_truth(&mut guess.truths, booleans, row.truth, row.boolean);
+                counts = put(field, counts, values, truths, reads, sources, edges);
                 at = next;
             }
         }
     }
-}
-
-// The sources, in order: each one's origin and the base terms of its index and value, and beside them its index value and its value.
-pub struct Sources {
-    pub origin: [u8; 304],
-    pub index: [u8; 304],
-    pub value: [u8; 304],
-    pub index_value: [u64; 304],
-    pub assigned: [u64; 304],
-    pub count: usize,
-}
-
-// The edges that some index value opens under the guess, in order: each one's ends and guard (0 differ, 1 true, 2 false), the base term or
-// Boolean that the guard names, and for "differ" the index value to which the edge is closed.
-pub struct Edges {
-    pub left: [u8; 112],
-    pub right: [u8; 112],
-    pub guard: [u8; 112],
-    pub number: [u8; 112],
-    pub closed: [u64; 112],
-    pub count: usize,
 }

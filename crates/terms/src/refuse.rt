@@ -1,36 +1,37 @@
 // The refusals 5 to 9 of a field against what was given before it (01, Refusals by number), tried in order.
 ghost use mathlib.Core.Path.{_≡_};
-ghost use mathlib.Core.Bool.{cond, _||_, _&&_};
+ghost use mathlib.Core.Bool.{false, cond, not, _||_, _&&_};
 ghost use mathlib.Core.List.{[], _∷_};
 ghost use lib.Dec.{eqb, leb, ltb};
-ghost use Rattle.paper.specs.Load.{namesUngiven};
-ghost use Rattle.query.specs.Standing.{kindOfField, numbersOf};
-ghost use Rattle.terms.specs.Table.{countIn, anyPast, fullIn, witnessFaultBy, faultBy};
-use crate::EQUALITY;
-use crate::Row;
+ghost use Prim.Native.Nat.{_%_, _/_};
+ghost use Rattle.paper.specs.Sizes.{maxArrays, maxBases, maxBooleans};
+ghost use Rattle.terms.specs.Faults.{faultBy, badWitnessesBy, equalWitnessesBy};
+use crate::Counts;
+use paper::EQUAL_WITNESSES;
+use paper::MAX_ARRAYS;
+use paper::MAX_BASES;
+use paper::MAX_BOOLEANS;
+use paper::NOT_GIVEN;
+use paper::TOO_MANY;
+use paper::WRONG_TRUTH;
+use paper::WRONG_WITNESS;
+use query::EqualityParts;
 use query::Field;
 
-// "At most 48 array terms, 256 base terms, 64 Booleans; at most 4,096 bytes."
-const MAX_ARRAYS: usize = 48;
-
-const MAX_BASES: usize = 256;
-
-const MAX_BOOLEANS: usize = 64;
-
 // The tests of a field, as functions, so that a chain of refusals has no branches.
-fn past(count: usize, number: u16) -> bool
+fn past(count: u16, number: u16) -> bool
     ensures { λ r. ⌜ r ≡ leb count number ⌝ }
 {
-    count <= number as usize
+    count <= number
 }
 
-fn reached(limit: usize, count: usize) -> bool
+fn reached(limit: usize, count: u16) -> bool
     ensures { λ r. ⌜ r ≡ leb limit count ⌝ }
 {
-    limit <= count
+    limit <= count as usize
 }
 
-fn same(a: u8, b: u8) -> bool
+fn same(a: u16, b: u16) -> bool
     ensures { λ r. ⌜ r ≡ eqb a b ⌝ }
 {
     a == b
@@ -40,6 +41,12 @@ fn same_value(a: u64, b: u64) -> bool
     ensures { λ r. ⌜ r ≡ eqb a b ⌝ }
 {
     a == b
+}
+
+fn is_false(truth: u8) -> bool
+    ensures { λ r. ⌜ r ≡ eqb 0 truth ⌝ }
+{
+    0 == truth
 }
 
 fn above_one(truth: u8) -> bool
@@ -75,108 +82,121 @@ fn choose(test: bool, a: u8, b: u8) -> u8
     b
 }
 
-fn choose_test(test: bool, a: bool, b: bool) -> bool
-    ensures { λ r. ⌜ r ≡ cond test a b ⌝ }
+fn choose_not(test: bool, a: u8, b: u8) -> u8
+    ensures { λ r. ⌜ r ≡ cond (not test) a b ⌝ }
 {
     if test {
-        return a;
+        return b;
     }
-    b
+    a
 }
 
-// 5: one array, base or Boolean term too many, by the series that a field gives a term of.
-fn full(base: bool, boolean: bool, bases: usize, booleans: usize, arrays: usize) -> bool
-    ensures { λ r. ⌜ r ≡ fullIn bases booleans arrays base boolean ⌝ }
+// 5 and 6 of a field that names other terms: its series is full, or one of up to three numbers is not yet given.
+fn named_fault(limit: usize, count: u16, first: bool, second: bool, third: bool) -> u8
+    ensures { λ r. ⌜ r ≡ cond (leb limit count) 5 (cond (first || (second || (third || false))) 6 0) ⌝ }
 {
-    choose_test(
-        base,
-        reached(MAX_BASES, bases),
-        choose_test(
-            boolean,
-            reached(MAX_BOOLEANS, booleans),
-            reached(MAX_ARRAYS, arrays),
-        ),
+    let last = either(third, false);
+    let later = either(second, last);
+    let unknown = either(first, later);
+    choose(
+        reached(limit, count),
+        TOO_MANY,
+        choose(unknown, NOT_GIVEN, 0),
     )
 }
 
-// Is one of the numbers past its count?
-fn past2(a: usize, x: u16, b: usize, y: u16) -> bool
-    ensures { λ r. ⌜ r ≡ anyPast (leb a x ∷ leb b y ∷ []) ⌝ }
+// 8: a witness isn't a read, or reads another array, or the two index numbers differ.
+fn good_witnesses(reads: &[u16; MAX_BASES], p: EqualityParts) -> bool
+    ensures { λ r. ⌜ not r ≡ badWitnessesBy (now (reads .entry)) p ⌝ }
 {
-    either(past(a, x), past(b, y))
+    let left = (p.left_witness % 256) as usize;
+    let right = (p.right_witness % 256) as usize;
+    let one = reads[left];
+    let other = reads[right];
+    both(
+        both(same(one % 256, p.left), same(other % 256, p.right)),
+        same(one / 256, other / 256),
+    )
 }
 
-fn past3(a: usize, x: u16, b: usize, y: u16, c: usize, z: u16) -> bool
-    ensures { λ r. ⌜ r ≡ anyPast (leb a x ∷ leb b y ∷ leb c z ∷ []) ⌝ }
+// 9: their assigned values are equal.
+fn equal_witnesses(values: &[u64; MAX_BASES], p: EqualityParts) -> bool
+    ensures { λ r. ⌜ r ≡ equalWitnessesBy (now (values .entry)) p ⌝ }
 {
-    either(past(a, x), past2(b, y, c, z))
+    let left = (p.left_witness % 256) as usize;
+    let right = (p.right_witness % 256) as usize;
+    same_value(values[left], values[right])
 }
 
-// 6: a term not yet given is named.
-fn ungiven(field: Field, bases: usize, booleans: usize, arrays: usize) -> bool
-    ensures { λ r. ⌜ r ≡ namesUngiven (countIn bases booleans arrays) (kindOfField field) (numbersOf field) ⌝ }
-{
-    match field {
-        Field::FreeBase(_) => false,
-        Field::FreeBoolean(_) => false,
-        Field::Variable => false,
-        Field::Write(p) => past3(arrays, p.beneath, bases, p.index, bases, p.value),
-        Field::Conditional(p) => past3(booleans, p.chooser, arrays, p.if_true, arrays, p.if_false),
-        Field::Read(p) => past2(arrays, p.from, bases, p.index),
-        Field::Equality(p) => either(
-            past(arrays, p.left),
-            past3(
-                arrays,
-                p.right,
-                bases,
-                p.left_witness,
-                bases,
-                p.right_witness,
-            ),
-        ),
-    }
-}
-
-// 8: a witness isn't a read, or reads another array, or the two index numbers differ. 9: their assigned values are equal where the truth is 0.
-fn witness_fault<'a>(
-    from: &'a [u8; 256],
-    index: &'a [u8; 256],
-    values: &'a [u64; 256],
-    row: Row,
+fn equality_fault<'a>(
+    reads: &'a [u16; MAX_BASES],
+    values: &'a [u64; MAX_BASES],
+    p: EqualityParts,
+    bases: u16,
+    booleans: u16,
+    arrays: u16,
 ) -> u8
-    ensures { λ r. ⌜ r ≡ witnessFaultBy (now (from .entry)) (now (index .entry)) (now (values .entry)) row ⌝ }
+    ensures { λ r. ⌜ r ≡ cond (leb maxBooleans booleans) 5 (cond (leb arrays (p .left) || (leb arrays (p .right) || (leb bases (p .«left_witness») || (leb bases (p .«right_witness») || false)))) 6 (cond (ltb 1 (p .truth) || false) 7 (cond (badWitnessesBy (now (reads .entry)) p) 8 (cond ((eqb 0 (p .truth) || false) && equalWitnessesBy (now (values .entry)) p) 9 0)))) ⌝ }
 {
-    let left = row.third as usize;
-    let right = row.fourth as usize;
-    let reads = both(same(from[left], row.first), same(from[right], row.second));
-    let good = both(reads, same(index[left], index[right]));
-    let equal = same_value(values[left], values[right]);
-    choose(good, choose(same(row.truth, 0), choose(equal, 9, 0), 0), 8)
+    let last = either(past(bases, p.right_witness), false);
+    let third = either(past(bases, p.left_witness), last);
+    let second = either(past(arrays, p.right), third);
+    let unknown = either(past(arrays, p.left), second);
+    let good = good_witnesses(reads, p);
+    let equal = both(either(is_false(p.truth), false), equal_witnesses(values, p));
+    let late = choose(
+        either(above_one(p.truth), false),
+        WRONG_TRUTH,
+        choose_not(good, WRONG_WITNESS, choose(equal, EQUAL_WITNESSES, 0)),
+    );
+    choose(
+        reached(MAX_BOOLEANS, booleans),
+        TOO_MANY,
+        choose(unknown, NOT_GIVEN, late),
+    )
 }
 
 // The first fault of a field against what was given before it, by its number; 0 where there is none.
 pub fn fault<'a>(
-    from: &'a [u8; 256],
-    index: &'a [u8; 256],
-    values: &'a [u64; 256],
-    bases: usize,
-    booleans: usize,
-    arrays: usize,
+    reads: &'a [u16; MAX_BASES],
+    values: &'a [u64; MAX_BASES],
+    counts: Counts,
     field: Field,
-    row: Row,
 ) -> u8
-    ensures { λ r. ⌜ r ≡ faultBy (now (from .entry)) (now (index .entry)) (now (values .entry)) bases booleans arrays field row ⌝ }
+    ensures { λ r. ⌜ r ≡ faultBy (now (reads .entry)) (now (values .entry)) counts field ⌝ }
 {
-    let too_many = full(row.base, row.boolean, bases, booleans, arrays);
-    let unknown = ungiven(field, bases, booleans, arrays);
-    let witness = choose(
-        same(row.tag, EQUALITY),
-        witness_fault(from, index, values, row),
-        0,
-    );
-    choose(
-        too_many,
-        5,
-        choose(unknown, 6, choose(above_one(row.truth), 7, witness)),
-    )
+    let bases = counts.bases;
+    let booleans = counts.booleans;
+    let arrays = counts.arrays;
+    match field {
+        Field::FreeBase(_) => choose(reached(MAX_BASES, bases), TOO_MANY, 0),
+        Field::FreeBoolean(truth) => choose(
+            reached(MAX_BOOLEANS, booleans),
+            TOO_MANY,
+            choose(either(above_one(truth), false), WRONG_TRUTH, 0),
+        ),
+        Field::Variable => choose(reached(MAX_ARRAYS, arrays), TOO_MANY, 0),
+        Field::Write(p) => named_fault(
+            MAX_ARRAYS,
+            arrays,
+            past(arrays, p.beneath),
+            past(bases, p.index),
+            past(bases, p.value),
+        ),
+        Field::Conditional(p) => named_fault(
+            MAX_ARRAYS,
+            arrays,
+            past(booleans, p.chooser),
+            past(arrays, p.if_true),
+            past(arrays, p.if_false),
+        ),
+        Field::Read(p) => named_fault(
+            MAX_BASES,
+            bases,
+            past(arrays, p.from),
+            past(bases, p.index),
+            false,
+        ),
+        Field::Equality(p) => equality_fault(reads, values, p, bases, booleans, arrays),
+    }
 }

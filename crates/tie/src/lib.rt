@@ -4,11 +4,10 @@
 ghost use mathlib.Core.Path.{_≡_};
 ghost use lib.ListN.{length};
 ghost use Rattle.meaning.proofs.Built.{AreBytes};
-ghost use Rattle.checker.specs.Reports.{CheckAllows, LookAllows, WriteAllows};
-ghost use Rattle.checker.specs.Judged.{ExaminedFrom};
+ghost use Rattle.checker.specs.Reports.{CheckAllows, LookAllows, ListAllows, WriteAllows};
 ghost use Rattle.zunidelo.specs.Told.{CheckTells, LookTells, WriteTells};
 use checker::Checked;
-use checker::Examined;
+use checker::Listed;
 use checker::Looked;
 use checker::Written;
 
@@ -43,10 +42,10 @@ pub fn allowed_clauses(query: &[u8], numbers: &mut [i32]) -> Written
     checker::clauses(query, numbers)
 }
 
-pub fn allowed_examine(query: &[u8]) -> Examined
-    ensures { λ r. ⌜ ExaminedFrom (now (query .entry)) r ⌝ }
+pub fn allowed_cells(query: &[u8], array: u64, indices: &mut [u64], contents: &mut [u64]) -> Listed
+    ensures { λ r. ⌜ ListAllows (now (query .entry)) array (now (indices .entry)) (now (indices .exit)) (now (contents .entry)) (now (contents .exit)) r ⌝ }
 {
-    checker::examine(query)
+    checker::cells(query, array, indices, contents)
 }
 
 pub fn told_check(query: &[u8], answer: &mut [u8], report: &mut [u64; 4]) -> u32

@@ -3,33 +3,38 @@
 -- Assumes nothing.
 use Prim.Native.Nat.{ℕ, _-_, _*_, _≤_}
 use native.Mathlib.Omega.{arith}
-use mathlib.Core.Bool.{cond, Bool, true, false}
+use mathlib.Core.Bool.{cond}
 use mathlib.Core.Path.{ap, _∙_}
 use lib.Dec.{eqb}
-use lib.ListN.{getD}
-use Rattle.cnf.proofs.Tally.{Tallied, tally-none, tally-more, clauses-total, freshes-total, numbers-total}
+use lib.ListN.{length}
+use Rattle.lemma.specs.Rows.{Literals, listed}
+use Rattle.cnf.proofs.Whole.{of-literal}
+use Rattle.cnf.proofs.Tally.{Tallied, tally-none, tally-more, totals}
 use Rattle.cnf.proofs.counts.Statement.{statement}
 use Rattle.cnf.proofs.counts.Tie as tie
 
 abbrev Inv-loop : tie.InvT-loop
-Inv-loop width literals count clauses₀ fresh₀ booleans₀ k₀ clauses fresh booleans k =
-    Tallied width literals clauses fresh booleans k × (clauses ≤ 128 * k) × (fresh ≤ 64 * k) × (booleans ≤ k) × (k ≤ count)
+Inv-loop literals count width clauses₀ fresh₀ booleans₀ k₀ clauses fresh booleans k =
+    Tallied width (listed literals count) clauses fresh booleans k × (clauses ≤ 128 * k) × (fresh ≤ 64 * k) × (booleans ≤ k) × (k ≤ count)
 
 abbrev μ-loop : tie.MeasureT-loop
-μ-loop width literals count clauses₀ fresh₀ booleans₀ k₀ clauses fresh booleans k = count - k
+μ-loop literals count width clauses₀ fresh₀ booleans₀ k₀ clauses fresh booleans k = count - k
 
-at-most-one : (c : tie.After-one-if Inv-loop μ-loop) → c .one-if .result ≤ 1
-at-most-one c = rw (c .one-if .ensures) (go (eqb (c .before .rank .result) 0))
-  where
-    go : (b : Bool) → cond b 1 0 ≤ 1
-    go true = omega arith
-    go false = omega arith
+-- the literals that are lent
+abbrev lent : tie.Start Inv-loop μ-loop → Literals
+lent start = listed (start .args .literals .now) (start .args .count)
 
 loop-holds : tie.Need-loop-holds Inv-loop μ-loop
-loop-holds c = (tally-none (c .args .width) (c .args .t1), omega arith, omega arith, omega arith, omega arith)
+loop-holds c = (tally-none (c .args .width) (lent c), omega arith, omega arith, omega arith, omega arith)
 
-element-copy-out-tag : tie.Need-element-copy-out-tag Inv-loop μ-loop
-element-copy-out-tag c = omega arith
+mul-tag-of : tie.Need-mul-tag-of Inv-loop μ-loop
+mul-tag-of c = omega arith
+
+element-copy-out-tag-of : tie.Need-element-copy-out-tag-of Inv-loop μ-loop
+element-copy-out-tag-of c = omega arith
+
+tag-of-requires : tie.Need-tag-of-requires Inv-loop μ-loop
+tag-of-requires c κs = tt
 
 clause-count-requires : tie.Need-clause-count-requires Inv-loop μ-loop
 clause-count-requires c κs = omega arith
@@ -50,7 +55,7 @@ one-if-requires : tie.Need-one-if-requires Inv-loop μ-loop
 one-if-requires c κs = tt
 
 add-booleans : tie.Need-add-booleans Inv-loop μ-loop
-add-booleans c = omega (arith, at-most-one c)
+add-booleans c = omega arith
 
 add-k : tie.Need-add-k Inv-loop μ-loop
 add-k c = omega arith
@@ -60,16 +65,20 @@ loop-less c = omega arith
 
 loop-again : tie.Need-loop-again Inv-loop μ-loop
 loop-again c =
-    let start = c .before .before .before .before .before .before .before in
-    let loop = c .before .before .before .before .before .before .loop in
-    let left = getD (start .args .t1 .left) (loop .k) 0 in
-    let right = getD (start .args .t1 .right) (loop .k) 0 in
+    let rank = c .before in
+    let freshes = rank .before in
+    let clauses = freshes .before in
+    let tag = clauses .before in
+    let inside = tag .before .before in
+    let loop = inside .before .loop in
+    let start = inside .before .before in
+    let width = start .args .width in
     let tallied =
-    tally-more (start .args .width) (start .args .t1) (loop .clauses) (loop .fresh) (loop .booleans) (loop .k) _ _ _ (c .before .before .before .before .before .loop-test .taken) (loop .inv .0)
-    (c .before .before .before .clause-count .ensures .0 (loop .fresh) left right)
-    (c .before .before .freshes .ensures .0 (loop .fresh) left right)
-    (c .one-if .ensures ∙ ap (λ (rank : ℕ). cond (eqb rank 0) 1 0) (c .before .rank .ensures (start .args .width) (loop .fresh) left right)) in
-    (tallied, omega arith, omega arith, omega (arith, at-most-one c), omega arith)
+    tally-more width (lent start) (loop .clauses) (loop .fresh) (loop .booleans) (loop .k) _ _ _ (inside .loop-test .taken) (loop .inv .0)
+    (of-literal width (lent start) (loop .k) (loop .fresh) (λ one. length (one .clauses)) (tag .tag-of .ensures) (clauses .clause-count .ensures .0))
+    (of-literal width (lent start) (loop .k) (loop .fresh) (λ one. one .freshes) (tag .tag-of .ensures) (freshes .freshes .ensures .0))
+    (c .one-if .ensures .0 ∙ ap (λ (rank : ℕ). cond (eqb rank 0) 1 0) (of-literal width (lent start) (loop .k) (loop .fresh) (λ one. one .rank) (tag .tag-of .ensures) (rank .rank .ensures width))) in
+    (tallied, omega arith, omega arith, omega arith, omega arith)
 
 mul-numbers : tie.Need-mul-numbers Inv-loop μ-loop
 mul-numbers c = omega arith
@@ -89,13 +98,8 @@ add-clauses-2 c = omega arith
 returns : tie.Need-returns Inv-loop μ-loop
 returns c =
     let start = c .before .before in
-    let loop = c .before .loop in (
-      clauses-total (start .args .width) (start .args .t1) (loop .clauses) (loop .fresh) (loop .booleans) (loop .k) (c .loop-test .left) (loop .inv .0),
-      (
-        freshes-total (start .args .width) (start .args .t1) (loop .clauses) (loop .fresh) (loop .booleans) (loop .k) (c .loop-test .left) (loop .inv .0),
-        numbers-total (start .args .width) (start .args .t1) (loop .clauses) (loop .fresh) (loop .booleans) (loop .k) (c .loop-test .left) (loop .inv .0),
-      ),
-    )
+    let loop = c .before .loop in
+    totals (start .args .width) (lent start) (loop .clauses) (loop .fresh) (loop .booleans) (loop .k) (c .loop-test .left) (loop .inv .0)
 
 pub counts-spec : {M : Type 1} → statement M
 counts-spec =
@@ -104,7 +108,9 @@ counts-spec =
     Inv-loop
     μ-loop
     loop-holds
-    element-copy-out-tag
+    mul-tag-of
+    element-copy-out-tag-of
+    tag-of-requires
     clause-count-requires
     add-clauses
     freshes-requires

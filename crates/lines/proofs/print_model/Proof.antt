@@ -1,21 +1,38 @@
--- `lines::print_model` meets its contract: the array terms left fall with each turn.
+-- `lines::print_model` meets its contract: the arrays left fall with each turn, and the runs keep their length.
 -- Assumes nothing.
 use Prim.Native.Nat.{_-_}
+use mathlib.Core.Path.{_≡_}
 use borrow.Author.Needs.{needs}
+use lib.ListN.{length}
 use Rattle.lines.proofs.print_model.Statement.{statement}
 use Rattle.lines.proofs.print_model.Tie as tie
 
 abbrev Inv-loop : tie.InvT-loop
-Inv-loop page₀ used query arrays rows count indices values stand₀ array₀ page stand array = Unit {0}
+Inv-loop page₀ used query indices₀ contents₀ stand₀ array₀ page indices contents stand array = (length indices ≡ 304) × (length contents ≡ 304)
 
 abbrev μ-loop : tie.MeasureT-loop
-μ-loop page₀ used query arrays rows count indices values stand₀ array₀ page stand array = 48 - array
-
-examine-requires : tie.Need-examine-requires Inv-loop μ-loop
-examine-requires c κs = search needs
+μ-loop page₀ used query indices₀ contents₀ stand₀ array₀ page indices contents stand array = 48 - array
 
 loop-holds : tie.Need-loop-holds Inv-loop μ-loop
 loop-holds c = search needs
+
+slice-aggregate-cells : tie.Need-slice-aggregate-cells Inv-loop μ-loop
+slice-aggregate-cells c = search needs
+
+slice-aggregate-cells-2 : tie.Need-slice-aggregate-cells-2 Inv-loop μ-loop
+slice-aggregate-cells-2 c = search needs
+
+cells-requires : tie.Need-cells-requires Inv-loop μ-loop
+cells-requires c κs = search needs
+
+enum-told : tie.Need-enum-told Inv-loop μ-loop
+enum-told c = search needs
+
+returns : tie.Need-returns Inv-loop μ-loop
+returns c = search needs
+
+enum-known-listed : tie.Need-enum-known-listed Inv-loop μ-loop
+enum-known-listed c = search needs
 
 print-cells-requires : tie.Need-print-cells-requires Inv-loop μ-loop
 print-cells-requires c κs = search needs
@@ -29,9 +46,6 @@ loop-less c = search needs
 loop-again : tie.Need-loop-again Inv-loop μ-loop
 loop-again c = search needs
 
-returns : tie.Need-returns Inv-loop μ-loop
-returns c = search needs
-
 returns-2 : tie.Need-returns-2 Inv-loop μ-loop
 returns-2 c = search needs
 
@@ -41,11 +55,15 @@ print-model-spec =
     (tie.spec
     Inv-loop
     μ-loop
-    examine-requires
     loop-holds
+    slice-aggregate-cells
+    slice-aggregate-cells-2
+    cells-requires
+    enum-told
+    returns
+    enum-known-listed
     print-cells-requires
     add-array
     loop-less
     loop-again
-    returns
     returns-2)

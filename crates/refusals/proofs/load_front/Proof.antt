@@ -6,14 +6,11 @@ use borrow.Author.Needs.{needs}
 use Rattle.refusals.proofs.load_front.Statement.{statement}
 use Rattle.refusals.proofs.load_front.Tie as tie
 
-slice-aggregate-load : tie.Need-slice-aggregate-load
-slice-aggregate-load c = simp length-take (omega arith)
+slice-aggregate-load-query : tie.Need-slice-aggregate-load-query
+slice-aggregate-load-query c = simp length-take (omega arith)
 
-load-requires : tie.Need-load-requires
-load-requires c κs = search needs
-
-say-requires : tie.Need-say-requires
-say-requires c κs = search needs
+load-query-requires : tie.Need-load-query-requires
+load-query-requires c κs = search needs
 
 returns : tie.Need-returns
 returns c = search needs
@@ -23,4 +20,4 @@ returns-2 c = search needs
 
 pub load-front-spec : {M : Type 1} → statement M
 load-front-spec =
-    tie.close (tie.spec slice-aggregate-load load-requires say-requires returns returns-2)
+    tie.close (tie.spec slice-aggregate-load-query load-query-requires returns returns-2)

@@ -1,7 +1,7 @@
 -- An element of a slice of bytes is below 256, wherever it stands.
 -- Assumes nothing.
 use borrow.Author.Needs.{needs}
-use Rattle.checker.proofs.Answers.{are-bytes}
+use Rattle.meaning.proofs.Built.{are-bytes}
 use Rattle.tie.proofs.lent_bytes.Statement.{statement}
 use Rattle.tie.proofs.lent_bytes.Tie as tie
 

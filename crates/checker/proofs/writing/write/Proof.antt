@@ -1,15 +1,13 @@
--- The answer of the clause writer, by the three laws of Concluding; its totals fit by Sizes.
--- Assumes nothing.
-use Rattle.lemma.specs.Pairs.{foundOf}
-use denote.Ref.{now}
-use Rattle.checker.proofs.Facts.{ready}
-use Rattle.checker.proofs.Concluding.{writes-quiet, writes-short, writes-clauses}
-use Rattle.checker.proofs.Sizes.{fresh-small}
-use mathlib.Core.Path.{ap, subst}
-use Prim.Native.Nat.{ℕ, _+_, _*_, _<_, _≤_}
+-- `checker::writing::write` meets its contract: 12 with no pair; with one its lemma's clauses, or 10 where there is no room for them; each by its law of
+-- Writes. Assumes nothing.
+use Prim.Native.Nat.{ℕ, _+_, _*_}
 use native.Mathlib.Omega.{arith}
+use mathlib.Core.Path.{refl, ap}
 use borrow.Author.Needs.{needs}
-use lib.ListN.{length}
+use Rattle.lemma.specs.Pairs.{foundOf}
+use Rattle.checker.proofs.Facts.{paired}
+use Rattle.checker.proofs.Sizes.{fresh-small}
+use Rattle.checker.proofs.Writes.{writes-quiet, writes-short, writes-clauses}
 use Rattle.checker.proofs.writing.write.Statement.{statement}
 use Rattle.checker.proofs.writing.write.Tie as tie
 
@@ -19,71 +17,77 @@ enum-told c = search needs
 enum-known-found : tie.Need-enum-known-found
 enum-known-found c = search needs
 
-literals-between-requires : tie.Need-literals-between-requires
-literals-between-requires c κs =
-    let start = c .before .before .before in
-    ready _ _ _ _ (start .pre .0) _ _ (ap foundOf (c .before .found .given .1))
+pair-literals-requires : tie.Need-pair-literals-requires
+pair-literals-requires c κs =
+    let f = c .before .before in
+    paired (f .before .before .pre .1 .1) _ (ap foundOf (f .found .given .1)) _ refl
+
+-- the function's entry, seen from behind the literals
+abbrev start : tie.After-pair-literals → tie.Start
+start p = p .before .before .before .before .before
 
 counts-requires : tie.Need-counts-requires
-counts-requires c κs = search needs
+counts-requires c κs = (c .before .pair-literals .ensures .proper .most, omega arith)
 
 returns : tie.Need-returns
-returns c =
-    let start = c .before .before .before .before .before .before .before in
-    let before = now (start .args .numbers) in
-    let counted = c .before .before .counts .ensures .1 .1 (start .args .bases) (start .args .booleans) in
-    writes-short _ _ _ _ _ _ _ (ap foundOf (c .before .before .before .before .before .found .given .1)) _ (c .before .before .before .literals-between .ensures) before (subst (λ (n : ℕ). length before < n) counted (c .if1 .taken))
+returns c = λ bytes known.
+    let n = c .before .before in
+    let p = n .before .before in
+    let counts = start p .args .counts in
+    writes-short (known .1) _ (ap foundOf (p .before .before .before .found .given .1)) (p .pair-literals .ensures) _ (omega (arith, c .if1 .taken, n .counts .ensures .1 .1 (counts .bases) (counts .booleans)))
+
+cast-bases : tie.Need-cast-bases
+cast-bases c = search needs
+
+cast-booleans : tie.Need-cast-booleans
+cast-booleans c = search needs
 
 put-clauses-requires : tie.Need-put-clauses-requires
 put-clauses-requires c κs =
-    let start = c .before .before .before .before .before .before .before .before in
-    let known = start .pre in
-    let counted = c .before .before .before .counts .ensures .1 .1 (start .args .bases) (start .args .booleans) in (
-      c .before .before .before .before .literals-between .ensures .made .proper .most,
-      known .1,
-      known .2,
+    let e = c .before .before .before .before in
+    let n = e .before .before in
+    let p = n .before .before in
+    let counts = start p .args .counts in
+    let held = start p .pre .1 .1 .holds .counts in (
+      p .pair-literals .ensures .proper .most,
+      held .bases-most,
+      held .booleans-most,
       omega arith,
-      subst (λ (n : ℕ). n ≤ length (now (start .args .numbers))) counted (c .before .if1 .left),
+      omega (arith, e .if1 .left, n .counts .ensures .1 .1 (counts .bases) (counts .booleans)),
     )
 
 mul-variables : tie.Need-mul-variables
-mul-variables c = search needs
+mul-variables c = omega (arith, c .before .before .before .before .before .before .before .before .before .before .before .before .before .before .before .pre .1 .1 .holds .counts .bases-most)
 
 add-variables : tie.Need-add-variables
-add-variables c = search needs
+add-variables c =
+    let held = c .before .before .before .before .before .before .before .before .before .before .before .before .before .before .before .pre .1 .1 .holds .counts in
+    omega (arith, held .bases-most, held .booleans-most)
 
 add-variables-2 : tie.Need-add-variables-2
 add-variables-2 c =
-    let known = c .before .before .before .before .before .before .before .before .before .before .before .pre in
-    let between = c .before .before .before .before .before .before .before .literals-between in
-    omega (
-      arith,
-      known .1,
-      known .2,
-      c .before .before .before .before .before .before .counts .ensures .1 .0,
-      fresh-small (between .result) (between .ensures .made .proper .most),
-    )
+    let n = c .before .before .before .before .before .before .before .before .before in
+    let p = n .before .before in
+    let held = start p .pre .1 .1 .holds .counts in
+    omega (arith, held .bases-most, held .booleans-most, n .counts .ensures .1 .0, fresh-small (p .pair-literals .ensures .proper))
 
 returns-2 : tie.Need-returns-2
-returns-2 c = writes-quiet _ _ _ _ _ _ (ap foundOf (c .enum-told .given .1)) _
+returns-2 c = λ bytes known. writes-quiet (known .1) (ap foundOf (c .enum-told .given .1)) _
 
 same-length : tie.Need-same-length
 same-length c = search needs
 
 returns-3 : tie.Need-returns-3
-returns-3 c =
-    let start = c .before .before .before .before .before .before .before .before .before .before .before in
-    let before = now (start .args .numbers) in
-    let bases = start .args .bases in
-    let booleans = start .args .booleans in
-    let counted = c .before .before .before .before .before .before .counts .ensures in
-    let put = c .before .before .put-clauses in
-    let fits = subst (λ (n : ℕ). n ≤ length before) (counted .1 .1 bases booleans) (c .before .before .before .before .if1 .left) in
-    writes-clauses _ _ _ bases booleans _ _ (ap foundOf (c .before .before .before .before .before .before .before .before .before .found .given .1)) _ (c .before .before .before .before .before .before .before .literals-between .ensures) before _ _ _ _ fits
-    (ap (λ (n : ℕ). 32 * bases + booleans + n) (counted .1 .0))
-    (counted .0 bases booleans)
-    (put .ensures .1)
-    (put .ensures .0)
+returns-3 c = λ bytes known.
+    let w = c .before .before in
+    let e = w .before .before .before .before .before in
+    let n = e .before .before in
+    let p = n .before .before in
+    let counts = start p .args .counts in
+    let counted = n .counts .ensures in
+    writes-clauses (known .1) _ (ap foundOf (p .before .before .before .found .given .1)) (p .pair-literals .ensures) _ _ _ _ _
+    (omega (arith, e .if1 .left, counted .1 .1 (counts .bases) (counts .booleans)))
+    (ap (λ (fresh : ℕ). 32 * counts .bases + counts .booleans + fresh) (counted .1 .0)) (counted .0 (counts .bases) (counts .booleans)) (w .put-clauses .ensures .1) (w .put-clauses .ensures .0)
 
 pub write-spec : {M : Type 1} → statement M
 write-spec =
@@ -91,9 +95,11 @@ write-spec =
     (tie.spec
     enum-told
     enum-known-found
-    literals-between-requires
+    pair-literals-requires
     counts-requires
     returns
+    cast-bases
+    cast-booleans
     put-clauses-requires
     mul-variables
     add-variables

@@ -1,9 +1,10 @@
 -- `cnf::literal::put_differences` meets its contract. The invariant: to store the d that are left is to store all. The measure is the bits that are left.
 -- Assumes nothing.
-use Prim.Native.Nat.{_-_}
+use Prim.Native.Nat.{_+_, _-_, _*_}
 use native.Mathlib.Nat.{sub-zero}
 use native.Mathlib.Omega.{arith}
 use mathlib.Core.List.{[], _∷_}
+use lib.IntN.{pos}
 use Rattle.cnf.specs.Parts.{differences}
 use Rattle.cnf.proofs.Runs.{Left, begun, further, done, put-as, left-as, room, range-end}
 use Rattle.cnf.proofs.Pieces.{differencesFrom, differences-step}
@@ -26,12 +27,18 @@ add-fresh-variable c = omega arith
 fresh-variable-requires : tie.Need-fresh-variable-requires Inv-loop μ-loop
 fresh-variable-requires c κs = (c .before .before .pre .0, omega arith)
 
+-- the bit's d is the first of what is left
+ahead : (c : tie.In-loop Inv-loop μ-loop)
+    → let args = c .before .before .args in
+    let loop = c .before .loop in
+    Left (args .numbers .now) (args .at) (differences (args .sizes) (args .first)) (loop .numbers) (loop .next)
+    (pos (args .sizes .width * args .sizes .bases + args .sizes .booleans + (args .first + loop .k) + 1) ∷ differencesFrom (args .sizes) (args .first) (loop .k + 1))
+ahead c = left-as (differences-step (c .before .before .args .sizes) (c .before .before .args .first) (c .before .loop .k) (c .loop-test .taken)) (c .before .loop .inv)
+
 put-signed-requires : tie.Need-put-signed-requires Inv-loop μ-loop
 put-signed-requires c κs =
-    let start = c .before .before .before .before in
-    let loop = c .before .before .before .loop in
-    let left = left-as (differences-step (start .args .sizes) (start .args .first) (loop .k) (c .before .before .loop-test .taken)) (loop .inv) in
-    (c .before .fresh-variable .ensures .1, omega (arith, room left (start .pre .2)))
+    let inside = c .before .before in
+    (c .before .fresh-variable .ensures .1, omega (arith, room (ahead inside) (inside .before .before .pre .2)))
 
 add-k : tie.Need-add-k Inv-loop μ-loop
 add-k c = omega arith
@@ -41,18 +48,14 @@ loop-less c = omega arith
 
 loop-again : tie.Need-loop-again Inv-loop μ-loop
 loop-again c =
-    let start = c .before .before .before .before .before .before in
-    let loop = c .before .before .before .before .before .loop in
-    let left = left-as (differences-step (start .args .sizes) (start .args .first) (loop .k) (c .before .before .before .before .loop-test .taken)) (loop .inv) in
-    further (_ ∷ []) left (put-as (cc) (c .before .put-signed .ensures))
+    let inside = c .before .before .before .before in
+    further (_ ∷ []) (ahead inside) (put-as (cc) (c .before .put-signed .ensures))
 
 same-length : tie.Need-same-length Inv-loop μ-loop
 same-length c = c .before .loop .inv .long
 
 returns : tie.Need-returns Inv-loop μ-loop
-returns c =
-    let args = c .before .before .args in
-    (done (left-as (rw (range-end (c .before .loop .k) (args .sizes .width) (c .loop-test .left))) (c .before .loop .inv)))
+returns c = done (left-as (rw (range-end (c .before .loop .k) (c .before .before .args .sizes .width) (c .loop-test .left))) (c .before .loop .inv))
 
 pub put-differences-spec : {M : Type 1} → statement M
 put-differences-spec =

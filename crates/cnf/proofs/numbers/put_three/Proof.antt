@@ -23,11 +23,15 @@ same-length c = search needs
 
 returns : tie.Need-returns
 returns c =
-    let start = c .before .before .before .before .before .before .before .before .before .before .before .before .args in
-    let first = further _ (begun (start .numbers .now) (start .at) _) (c .before .before .before .before .before .before .before .before .before .before .put-signed .ensures) in
-    let second = further _ first (c .before .before .before .before .before .before .before .put-signed2 .ensures) in
-    let third = further _ second (c .before .before .before .before .put-signed3 .ensures) in
-    done (further _ third (c .before .put-signed4 .ensures))
+    let four = c .before in
+    let three = four .before .before .before in
+    let two = three .before .before .before in
+    let one = two .before .before .before in
+    let args = one .before .before .args in
+    let first = further _ (begun (args .numbers .now) (args .at) _) (one .put-signed .ensures) in
+    let second = further _ first (two .put-signed2 .ensures) in
+    let third = further _ second (three .put-signed3 .ensures) in
+    done (further _ third (four .put-signed4 .ensures))
 
 pub put-three-spec : {M : Type 1} → statement M
 put-three-spec =

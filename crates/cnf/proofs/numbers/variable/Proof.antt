@@ -1,4 +1,4 @@
--- `cnf::numbers::variable` meets its contract. The product of a width and a term number is at most 64 * 65535, so every sum fits.
+-- `cnf::numbers::variable` meets its contract. The product of a width and a term number is at most 64 * 256, so every sum fits.
 -- Assumes nothing.
 use Prim.Native.Nat.{_*_, _≤_}
 use native.Mathlib.Nat.{mul-le-mul}
@@ -7,8 +7,8 @@ use mathlib.Core.Path.{refl}
 use Rattle.cnf.proofs.numbers.variable.Statement.{statement}
 use Rattle.cnf.proofs.numbers.variable.Tie as tie
 
-product : (c : tie.Start) → c .args .width * c .args .term ≤ 4194240
-product c = mul-le-mul {n₂ = 64} {m₂ = 65535} (omega arith) (omega arith)
+product : (c : tie.Start) → c .args .width * c .args .term ≤ 16384
+product c = mul-le-mul {n₂ = 64} {m₂ = 256} (omega arith) (omega arith)
 
 mul-result : tie.Need-mul-result
 mul-result c = omega (arith, product c)

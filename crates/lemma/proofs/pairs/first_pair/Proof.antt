@@ -1,187 +1,203 @@
--- `lemma::pairs::first_pair` meets its contract. The invariants say what is left to do: the pair asked for is that of the sources from s on, and s
--- conflicts with none of those before t. A link skips only sources of another index value. A source that is marked conflicts with none, or
--- is like s, which is the same once s has been tried.
+-- `lemma::pairs::first_pair` meets its contract: while source s is tried, all before t conflict with it in nothing, as the links pass over only sources of another
+-- index value. A source that is marked conflicts with none, or is like s, which is the same once s has been tried.
 -- Assumes nothing.
 use Prim.Native.Nat.{ℕ, _-_, _<_, _≤_}
 use native.Mathlib.Omega.{arith}
-use borrow.Author.Needs.{needs}
-use mathlib.Core.Path.{_≡_, refl, sym, ap, ap₂, _∙_, subst}
+use mathlib.Core.Path.{_≡_, refl, sym, ap, _∙_, subst}
 use mathlib.Core.Bool.{Bool, false}
 use mathlib.Core.List.{List}
-use lib.ListN.{getD, set}
-use Rattle.terms.specs.declared.Sources.{Sources}
+use lib.ListN.{length, getD, set, length-set}
+use Rattle.reach.specs.Reached.{Sources, sourcesOf, valueAt}
 use Rattle.lemma.specs.declared.Found.{Found}
-use Rattle.lemma.specs.Pairs.{clashOf, alikeOf, pairIn, foundOf, sourcesBy, Linked}
+use Rattle.lemma.specs.Pairs.{clashOf, alikeOf, pairIn, foundOf}
 use Rattle.lemma.proofs.Pairing.{restFrom, Free, Cleared, Marked, rest-all, rest-end, rest-hit, rest-free, clash-at, free-over, cleared-first, marked-first, cleared-next, marked-put, begins, begins-at}
 use Rattle.lemma.proofs.pairs.first_pair.Statement.{statement}
 use Rattle.lemma.proofs.pairs.first_pair.Tie as tie
 
--- what is found at the rows that were read is found at the table's
-at-row : (one other origin : ℕ) {row there : ℕ} {answer : Bool} → row ≡ there → clashOf one other row origin ≡ answer → clashOf one other there origin ≡ answer
-at-row one other origin is found = ap (λ (row : ℕ). clashOf one other row origin) (sym is) ∙ found
+-- what is read is what the tables hold
+ap₄ : (f : ℕ → ℕ → ℕ → ℕ → Bool) {a b c d a′ b′ c′ d′ : ℕ} → a ≡ a′ → b ≡ b′ → c ≡ c′ → d ≡ d′ → f a b c d ≡ f a′ b′ c′ d′
+ap₄ f p q r v = λ i. f (p i) (q i) (r i) (v i)
 
-like : (known : Bool) (one other : ℕ) {row others at-s at-t : ℕ} → row ≡ at-s → others ≡ at-t → alikeOf known one other row others ≡ alikeOf known one other at-s at-t
-like known one other row-is others-is = ap₂ (alikeOf known one other) row-is others-is
-
--- while source s is tried, for all index values by which the sources are linked
-pub record Trying (origins values assigned : List ℕ) (count : ℕ) (rows : List ℕ) (clear : List Bool) (s t : ℕ) : Type 0 where
-  pub same : t < count → getD values t 0 ≡ getD values s 0
-  pub free : Free (sourcesBy origins values assigned count) rows s t
-  pub marked : Marked (sourcesBy origins values assigned count) rows s clear
+-- while source s is tried
+pub record Trying (sources : Sources) (rows : List ℕ) (clear : List Bool) (s t : ℕ) : Type 0 where
+  pub same : t < sources .count → valueAt sources t ≡ valueAt sources s
+  pub free : Free sources rows s t
+  pub marked : Marked sources rows s clear
 
 abbrev Inv-loop : tie.InvT-loop
-Inv-loop origins assigned count rows next found₀ clear₀ s row value t₀ found clear t =
+Inv-loop values sources count rows next clear₀ found₀ s row source value t₀ clear found t =
     (found ≡ Found.Nothing)
     × (s < t)
     × (t ≤ count)
-    × ((values : List ℕ) → Linked (sourcesBy origins values assigned count) next → Trying origins values assigned count rows clear s t)
+    × (length clear ≡ length clear₀)
+    × Trying (sourcesOf values sources count) rows clear s t
 
 abbrev μ-loop : tie.MeasureT-loop
-μ-loop origins assigned count rows next found₀ clear₀ s row value t₀ found clear t = count - t
+μ-loop values sources count rows next clear₀ found₀ s row source value t₀ clear found t = count - t
 
 -- what is left to search, and the marks of what is left
-pub record Searching (origins values assigned : List ℕ) (count : ℕ) (rows : List ℕ) (clear : List Bool) (s : ℕ) : Type 0 where
-  pub left : pairIn (sourcesBy origins values assigned count) rows ≡ restFrom (sourcesBy origins values assigned count) rows s
-  pub cleared : Cleared (sourcesBy origins values assigned count) rows s clear
+pub record Searching (sources : Sources) (rows : List ℕ) (clear : List Bool) (s : ℕ) : Type 0 where
+  pub left : pairIn sources rows ≡ restFrom sources rows s
+  pub cleared : Cleared sources rows s clear
 
 abbrev Inv-first : tie.InvT-first
-Inv-first origins assigned count rows next found₀ clear₀ s₀ found clear s =
+Inv-first values sources count rows next clear₀ found₀ s₀ clear found s =
     (found ≡ Found.Nothing)
     × (s ≤ count)
-    × ((values : List ℕ) → Linked (sourcesBy origins values assigned count) next → Searching origins values assigned count rows clear s)
+    × (length clear ≡ length clear₀)
+    × Searching (sourcesOf values sources count) rows clear s
 
 abbrev μ-first : tie.MeasureT-first
-μ-first origins assigned count rows next found₀ clear₀ s₀ found clear s = count - s
+μ-first values sources count rows next clear₀ found₀ s₀ clear found s = count - s
 
--- the sources that are lent, with index values
-abbrev lent-to : tie.Start Inv-loop μ-loop Inv-first μ-first → List ℕ → Sources
-lent-to start values = sourcesBy (start .args .origins .now) values (start .args .assigned .now) (start .args .count)
+-- the function's entry, seen from the heads of the loops, and the sources that are lent
+abbrev start : tie.At-first Inv-loop μ-loop Inv-first μ-first → tie.Start Inv-loop μ-loop Inv-first μ-first
+start f = f .before .before .before .before
+
+abbrev trying-of : tie.At-loop Inv-loop μ-loop Inv-first μ-first → tie.At-first Inv-loop μ-loop Inv-first μ-first
+trying-of l = l .before .before .before .before .before .before .before .before
+
+abbrev lent-to : tie.Start Inv-loop μ-loop Inv-first μ-first → Sources
+lent-to s = sourcesOf (s .args .values .now) (s .args .sources .now) (s .args .count)
+
+-- the marks keep their number
+clear-long : (f : tie.At-first Inv-loop μ-loop Inv-first μ-first) → start f .args .count ≤ length (f .first .clear)
+clear-long f = omega (arith, f .first .inv .2, start f .pre .clear-long)
+
+clear-still : (l : tie.At-loop Inv-loop μ-loop Inv-first μ-first) → start (trying-of l) .args .count ≤ length (l .loop .clear)
+clear-still l = omega (arith, l .loop .inv .3, clear-long (trying-of l))
+
+-- each link leads on, and not past the end
+next-later : (s : tie.Start Inv-loop μ-loop Inv-first μ-first) (k : ℕ) → k < s .args .count → k < getD (s .args .next .now) k 0
+next-later s k inside = s .pre .linked k inside .later
+
+next-within : (s : tie.Start Inv-loop μ-loop Inv-first μ-first) (k : ℕ) → k < s .args .count → getD (s .args .next .now) k 0 ≤ s .args .count
+next-within s k inside = s .pre .linked k inside .within
 
 first-holds : tie.Need-first-holds Inv-loop μ-loop Inv-first μ-first
-first-holds c = (
-  refl,
-  omega arith,
-  λ values linked. record { left = rest-all (lent-to c values) (c .args .rows .now); cleared = cleared-first (lent-to c values) (c .args .rows .now) 304 (c .pre .sources) },
-)
+first-holds c =
+    let s = c .before .before .before in
+    let sources = lent-to s in
+    (refl, omega arith, refl, record { left = rest-all sources (s .args .rows .now); cleared = cleared-first sources (s .args .rows .now) (s .args .clear .now) (s .pre .unknown) })
 
 row-requires : tie.Need-row-requires Inv-loop μ-loop Inv-first μ-first
-row-requires c κs = omega (arith, c .before .before .pre .sources)
+row-requires c κs = omega (arith, start (c .before) .pre .rows-long)
 
-mul-value : tie.Need-mul-value Inv-loop μ-loop Inv-first μ-first
-mul-value c = omega arith
+mul-source : tie.Need-mul-source Inv-loop μ-loop Inv-first μ-first
+mul-source c = omega (arith, start (c .before .before) .pre .sources)
 
-element-copy-out-value : tie.Need-element-copy-out-value Inv-loop μ-loop Inv-first μ-first
-element-copy-out-value c = omega arith
+element-copy-out-source : tie.Need-element-copy-out-source Inv-loop μ-loop Inv-first μ-first
+element-copy-out-source c = omega (arith, start (c .before .before) .pre .sources)
 
-array-read-first-tried : tie.Need-array-read-first-tried Inv-loop μ-loop Inv-first μ-first
-array-read-first-tried c = omega arith
+assigned-value-requires : tie.Need-assigned-value-requires Inv-loop μ-loop Inv-first μ-first
+assigned-value-requires c κs = tt
+
+slice-read-first-tried : tie.Need-slice-read-first-tried Inv-loop μ-loop Inv-first μ-first
+slice-read-first-tried c = omega (arith, clear-long (c .before .before .before .before .before))
 
 mul-first-tried : tie.Need-mul-first-tried Inv-loop μ-loop Inv-first μ-first
-mul-first-tried c = omega arith
+mul-first-tried c = omega (arith, start (c .before .before .before .before .before) .pre .sources)
 
-element-copy-out-first-tried : tie.Need-element-copy-out-first-tried Inv-loop μ-loop Inv-first μ-first
-element-copy-out-first-tried c = omega arith
+shared-slice-read-first-tried : tie.Need-shared-slice-read-first-tried Inv-loop μ-loop Inv-first μ-first
+shared-slice-read-first-tried c = omega (arith, start (c .before .before .before .before .before .before) .pre .links-long)
 
 first-tried-requires : tie.Need-first-tried-requires Inv-loop μ-loop Inv-first μ-first
-first-tried-requires c κs = search needs
+first-tried-requires c κs = tt
 
 loop-holds : tie.Need-loop-holds Inv-loop μ-loop Inv-first μ-first
 loop-holds c =
-    let at = c .before .before .before .before .before in
-    let start = at .before in
-    let s = at .first .s in
-    let inside : s < start .args .count = omega arith in
-    let next = getD (start .args .next .now) s 0 in
-    let known = getD (at .first .clear) s false in
-    let rows = start .args .rows .now in
-    let bounds = begins-at s next (start .args .count) known inside (start .pre .later s inside) (start .pre .within s inside) (c .first-tried .result) (c .first-tried .ensures) in (
-      at .first .inv .0,
+    let f = c .before .before .before .before .before .before .before in
+    let e = start f in
+    let s = f .first .s in
+    let inside : s < e .args .count = omega arith in
+    let next = getD (e .args .next .now) s 0 in
+    let known = getD (f .first .clear) s false in
+    let rows = e .args .rows .now in
+    let bounds = begins-at s next (e .args .count) known inside (next-later e s inside) (next-within e s inside) (c .first-tried .result) (c .first-tried .ensures) in
+    let cleared = f .first .inv .3 .cleared in
+    let begun = begins (lent-to e) rows s next known (cleared s (omega arith) inside) (e .pre .linked s inside) _ (c .first-tried .ensures) in (
+      f .first .inv .0,
       bounds .0,
       bounds .1,
-      (λ values linked.
-          let cleared = at .first .inv .2 values linked .cleared in
-          let begun = begins (lent-to start values) rows s next known (cleared s (omega arith) inside) (linked s inside) _ (c .first-tried .ensures) in
-          record { same = begun .0; free = begun .1; marked = marked-first (lent-to start values) rows s (at .first .clear) cleared }),
+      refl,
+      record { same = begun .0; free = begun .1; marked = marked-first (lent-to e) rows s (f .first .clear) cleared },
     )
 
-mul-clashes : tie.Need-mul-clashes Inv-loop μ-loop Inv-first μ-first
-mul-clashes c = omega arith
+mul-later : tie.Need-mul-later Inv-loop μ-loop Inv-first μ-first
+mul-later c = omega (arith, start (trying-of (c .before)) .pre .sources)
 
-element-copy-out-clashes : tie.Need-element-copy-out-clashes Inv-loop μ-loop Inv-first μ-first
-element-copy-out-clashes c = omega arith
+element-copy-out-later : tie.Need-element-copy-out-later Inv-loop μ-loop Inv-first μ-first
+element-copy-out-later c = omega (arith, start (trying-of (c .before)) .pre .sources)
 
-element-copy-out-clashes-2 : tie.Need-element-copy-out-clashes-2 Inv-loop μ-loop Inv-first μ-first
-element-copy-out-clashes-2 c = omega arith
+assigned-value-requires-2 : tie.Need-assigned-value-requires-2 Inv-loop μ-loop Inv-first μ-first
+assigned-value-requires-2 c κs = tt
+
+origin-of-requires : tie.Need-origin-of-requires Inv-loop μ-loop Inv-first μ-first
+origin-of-requires c κs = tt
 
 clashes-requires : tie.Need-clashes-requires Inv-loop μ-loop Inv-first μ-first
 clashes-requires c κs =
-    let at = c .before .before .before in
-    let start = at .before .before .before .before .before .before .before in
-    start .pre .origin (at .loop .t) (omega arith)
+    let l = c .before .before .before .before in
+    rw (c .origin-of .ensures) (start (trying-of l) .pre .origin (l .loop .t) (omega arith))
 
-array-read-alike : tie.Need-array-read-alike Inv-loop μ-loop Inv-first μ-first
-array-read-alike c = omega arith
-
-mul-alike : tie.Need-mul-alike Inv-loop μ-loop Inv-first μ-first
-mul-alike c = omega arith
-
-element-copy-out-alike : tie.Need-element-copy-out-alike Inv-loop μ-loop Inv-first μ-first
-element-copy-out-alike c = omega arith
+slice-read-alike : tie.Need-slice-read-alike Inv-loop μ-loop Inv-first μ-first
+slice-read-alike c = omega (arith, clear-still (c .before .before .before .before .before .before .before))
 
 row-requires-2 : tie.Need-row-requires-2 Inv-loop μ-loop Inv-first μ-first
-row-requires-2 c κs = omega (arith, c .before .before .before .before .before .before .before .before .before .before .before .before .before .pre .sources)
+row-requires-2 c κs = omega (arith, start (trying-of (c .before .before .before .before .before .before .before)) .pre .rows-long)
 
 alike-requires : tie.Need-alike-requires Inv-loop μ-loop Inv-first μ-first
-alike-requires c κs = search needs
+alike-requires c κs = tt
 
-array-write-clear : tie.Need-array-write-clear Inv-loop μ-loop Inv-first μ-first
-array-write-clear c = omega arith
+slice-write-clear : tie.Need-slice-write-clear Inv-loop μ-loop Inv-first μ-first
+slice-write-clear c = omega (arith, clear-still (c .before .before .before .before .before .before .before .before .before))
 
 mul-t : tie.Need-mul-t Inv-loop μ-loop Inv-first μ-first
-mul-t c = omega arith
+mul-t c = omega (arith, start (trying-of (c .before .before .before .before .before .before .before .before .before)) .pre .sources)
 
-element-copy-out-t : tie.Need-element-copy-out-t Inv-loop μ-loop Inv-first μ-first
-element-copy-out-t c = omega arith
+shared-slice-read-t : tie.Need-shared-slice-read-t Inv-loop μ-loop Inv-first μ-first
+shared-slice-read-t c = omega (arith, start (trying-of (c .before .before .before .before .before .before .before .before .before .before)) .pre .links-long)
 
 cast-t : tie.Need-cast-t Inv-loop μ-loop Inv-first μ-first
 cast-t c =
-    let at = c .before .before .before .before .before .before .before .before .before in
-    let start = at .before .before .before .before .before .before .before in
-    omega (arith, start .pre .sources, start .pre .within (at .loop .t) (omega arith))
+    let l = c .before .before .before .before .before .before .before .before .before .before in
+    let e = start (trying-of l) in
+    omega (arith, e .pre .sources, next-within e (l .loop .t) (omega arith))
 
 loop-less : tie.Need-loop-less Inv-loop μ-loop Inv-first μ-first
 loop-less c =
-    let at = c .before .before .before .before .before .before .before .before .before in
-    let start = at .before .before .before .before .before .before .before in
-    omega (arith, start .pre .later (at .loop .t) (omega arith), start .pre .within (at .loop .t) (omega arith))
+    let l = c .before .before .before .before .before .before .before .before .before .before in
+    let e = start (trying-of l) in
+    omega (arith, next-later e (l .loop .t) (omega arith), next-within e (l .loop .t) (omega arith))
 
 loop-again : tie.Need-loop-again Inv-loop μ-loop Inv-first μ-first
 loop-again c =
-    let at = c .before .before .before .before .before .before .before .before .before in
-    let start = at .before .before .before .before .before .before .before in
-    let s = at .before .before .before .before .before .before .first .s in
-    let t = at .loop .t in
-    let rows = start .args .rows .now in
-    let clear = at .loop .clear in
-    let inside : t < start .args .count = omega arith in
-    let one = getD (start .args .assigned .now) s 0 in
-    let other = getD (start .args .assigned .now) t 0 in
-    let row-is = at .before .before .before .before .row .ensures in
-    let clash = at-row one other (getD (start .args .origins .now) t 0) row-is (sym (c .before .before .before .before .before .clashes .ensures) ∙ c .before .before .before .before .if1 .left) in
-    let put = c .before .alike .ensures ∙ like (getD clear t false) one other row-is (c .before .before .row2 .ensures) in (
-      at .loop .inv .0,
-      omega (arith, start .pre .later t inside),
-      start .pre .within t inside,
-      (λ values linked.
-          let sources = lent-to start values in
-          let trying = at .loop .inv .3 values linked in
-          let same = trying .same inside in
-          let link = linked t inside in
-          record {
-            same = λ further. link .same further ∙ same;
-            free = free-over sources rows s t _ (trying .free) same (clash-at sources rows s t same clash) link;
-            marked = subst (λ (new : Bool). Marked sources rows s (set clear t new)) (sym put) (marked-put sources rows s t clear (at .loop .inv .1) inside same (trying .marked));
-          }),
+    let l = c .before .before .before .before .before .before .before .before .before .before in
+    let f = trying-of l in
+    let e = start f in
+    let s = f .first .s in
+    let t = l .loop .t in
+    let rows = e .args .rows .now in
+    let clear = l .loop .clear in
+    let sources = lent-to e in
+    let inside : t < e .args .count = c .before .before .before .before .before .before .before .before .before .loop-test .taken in
+    let value = l .before .before .before .before .assigned-value .ensures in
+    let other = c .before .before .before .before .before .before .before .assigned-value2 .ensures in
+    let row = l .before .before .before .before .before .before .row .ensures in
+    let clash = sym (ap₄ clashOf value other row (c .before .before .before .before .before .before .origin-of .ensures)) ∙ sym (c .before .before .before .before .before .clashes .ensures) ∙ c .before .before .before .before .if1 .left in
+    let put = c .before .alike .ensures ∙ ap₄ (alikeOf (getD clear t false)) value other row (c .before .before .row2 .ensures) in
+    let trying = l .loop .inv .4 in
+    let same = trying .same inside in
+    let link = e .pre .linked t inside in (
+      l .loop .inv .0,
+      omega (arith, next-later e t inside),
+      next-within e t inside,
+      length-set clear t (c .before .alike .result) ∙ l .loop .inv .3,
+      record {
+        same = λ further. link .same further ∙ same;
+        free = free-over sources rows s t _ (trying .free) same (clash-at sources rows s t same clash) link;
+        marked = subst (λ (new : Bool). Marked sources rows s (set clear t new)) (sym put) (marked-put sources rows s t clear (l .loop .inv .1) inside same (trying .marked));
+      },
     )
 
 add-s : tie.Need-add-s Inv-loop μ-loop Inv-first μ-first
@@ -192,43 +208,50 @@ first-less c = omega arith
 
 first-again : tie.Need-first-again Inv-loop μ-loop Inv-first μ-first
 first-again c =
-    let at = c .before in
-    let start = at .before .before .before .before .before .before .before in
-    let s = at .before .before .before .before .before .before .first .s in
-    let rows = start .args .rows .now in (
-      at .loop .inv .0,
+    let l = c .before in
+    let f = trying-of l in
+    let e = start f in
+    let s = f .first .s in
+    let rows = e .args .rows .now in
+    let sources = lent-to e in
+    let trying = l .loop .inv .4 in
+    let free : Free sources rows s (e .args .count) = λ j above below. trying .free j above (omega arith) in (
+      l .loop .inv .0,
       omega arith,
-      (λ values linked.
-          let sources = lent-to start values in
-          let trying = at .loop .inv .3 values linked in
-          let free : Free sources rows s (start .args .count) = λ j above below. trying .free j above (omega arith) in
-          record {
-            left = at .before .before .before .before .before .before .first .inv .2 values linked .left ∙ rest-free sources rows s (omega arith) free;
-            cleared = cleared-next sources rows s (at .loop .clear) free (trying .marked);
-          }),
+      l .loop .inv .3 ∙ f .first .inv .2,
+      record {
+        left = f .first .inv .3 .left ∙ rest-free sources rows s (omega arith) free;
+        cleared = cleared-next sources rows s (l .loop .clear) free (trying .marked);
+      },
     )
+
+same-length : tie.Need-same-length Inv-loop μ-loop Inv-first μ-first
+same-length c = c .before .first .inv .2
 
 returns : tie.Need-returns Inv-loop μ-loop Inv-first μ-first
 returns c =
-    let at = c .before in
-    λ values linked.
-    ap foundOf (at .first .inv .0) ∙ sym (at .first .inv .2 values linked .left ∙ rest-end (lent-to (at .before) values) (at .before .args .rows .now) (at .first .s) (omega arith))
+    let f = c .before in
+    let e = start f in
+    ap foundOf (f .first .inv .0) ∙ sym (f .first .inv .3 .left ∙ rest-end (lent-to e) (e .args .rows .now) (f .first .s) (omega arith))
+
+same-length-2 : tie.Need-same-length-2 Inv-loop μ-loop Inv-first μ-first
+same-length-2 c =
+    let l = c .before .before .before .before .before .before in
+    l .loop .inv .3 ∙ trying-of l .first .inv .2
 
 returns-2 : tie.Need-returns-2 Inv-loop μ-loop Inv-first μ-first
 returns-2 c =
-    let at = c .before .before .before .before .before in
-    let start = at .before .before .before .before .before .before .before in
-    let s = at .before .before .before .before .before .before .first .s in
-    let t = at .loop .t in
-    let rows = start .args .rows .now in
-    let inside : t < start .args .count = omega arith in
-    let one = getD (start .args .assigned .now) s 0 in
-    let other = getD (start .args .assigned .now) t 0 in
-    let clash = at-row one other (getD (start .args .origins .now) t 0) (at .before .before .before .before .row .ensures) (sym (c .before .clashes .ensures) ∙ c .if1 .taken) in
-    λ values linked.
-    let sources = lent-to start values in
-    let trying = at .loop .inv .3 values linked in
-    sym (at .before .before .before .before .before .before .first .inv .2 values linked .left ∙ rest-hit sources rows s t (at .loop .inv .1) inside (trying .free) (clash-at sources rows s t (trying .same inside) clash))
+    let l = c .before .before .before .before .before .before in
+    let f = trying-of l in
+    let e = start f in
+    let s = f .first .s in
+    let t = l .loop .t in
+    let rows = e .args .rows .now in
+    let sources = lent-to e in
+    let inside : t < e .args .count = omega arith in
+    let clash = sym (ap₄ clashOf (l .before .before .before .before .assigned-value .ensures) (c .before .before .before .assigned-value2 .ensures) (l .before .before .before .before .before .before .row .ensures) (c .before .before .origin-of .ensures)) ∙ sym (c .before .clashes .ensures) ∙ c .if1 .taken in
+    let trying = l .loop .inv .4 in
+    sym (f .first .inv .3 .left ∙ rest-hit sources rows s t (l .loop .inv .1) inside (trying .free) (clash-at sources rows s t (trying .same inside) clash))
 
 pub first-pair-spec : {M : Type 1} → statement M
 first-pair-spec =
@@ -240,30 +263,32 @@ first-pair-spec =
     μ-first
     first-holds
     row-requires
-    mul-value
-    element-copy-out-value
-    array-read-first-tried
+    mul-source
+    element-copy-out-source
+    assigned-value-requires
+    slice-read-first-tried
     mul-first-tried
-    element-copy-out-first-tried
+    shared-slice-read-first-tried
     first-tried-requires
     loop-holds
-    mul-clashes
-    element-copy-out-clashes
-    element-copy-out-clashes-2
+    mul-later
+    element-copy-out-later
+    assigned-value-requires-2
+    origin-of-requires
     clashes-requires
-    array-read-alike
-    mul-alike
-    element-copy-out-alike
+    slice-read-alike
     row-requires-2
     alike-requires
-    array-write-clear
+    slice-write-clear
     mul-t
-    element-copy-out-t
+    shared-slice-read-t
     cast-t
     loop-less
     loop-again
     add-s
     first-less
     first-again
+    same-length
     returns
+    same-length-2
     returns-2)

@@ -1,0 +1,29 @@
+-- `checker::checking::check` meets its contract: a refused query by the loader's refusal, an accepted one by what is ruled on its tables.
+-- Assumes nothing.
+use borrow.Author.Needs.{needs}
+use Rattle.checker.proofs.Facts.{refused, judged}
+use Rattle.checker.proofs.Writes.{check-refused}
+use Rattle.checker.proofs.checking.check.Statement.{statement}
+use Rattle.checker.proofs.checking.check.Tie as tie
+
+judge-requires : tie.Need-judge-requires
+judge-requires c κs = search needs
+
+returns : tie.Need-returns
+returns c = check-refused _ _ _ _ (refused (c .before .judge .ensures) (c .if1 .taken))
+
+conclude-requires : tie.Need-conclude-requires
+conclude-requires c κs =
+    let e = c .before .before .before .before .before in
+    (_, (_, judged (e .before .judge .ensures) (e .if1 .left)))
+
+same-length : tie.Need-same-length
+same-length c = search needs
+
+returns-2 : tie.Need-returns-2
+returns-2 c =
+    let e = c .before .before .before .before .before .before .before .before in
+    c .before .before .conclude .ensures _ (_, judged (e .before .judge .ensures) (e .if1 .left))
+
+pub check-spec : {M : Type 1} → statement M
+check-spec = tie.close (tie.spec judge-requires returns conclude-requires same-length returns-2)

@@ -1,0 +1,40 @@
+-- `lemma::rows::literal_row` meets its contract: the sum is the definition's.
+-- Assumes nothing.
+use borrow.Author.Needs.{needs}
+use Rattle.lemma.specs.Rows.{literalRow}
+use Rattle.lemma.proofs.rows.literal_row.Statement.{statement}
+use Rattle.lemma.proofs.rows.literal_row.Tie as tie
+
+cast-middle : tie.Need-cast-middle
+cast-middle c = search needs
+
+cast-high : tie.Need-cast-high
+cast-high c = search needs
+
+mul-result : tie.Need-mul-result
+mul-result c = search needs
+
+add-result : tie.Need-add-result
+add-result c = search needs
+
+mul-result-2 : tie.Need-mul-result-2
+mul-result-2 c = search needs
+
+add-result-2 : tie.Need-add-result-2
+add-result-2 c = search needs
+
+returns : tie.Need-returns
+unfolding literalRow
+returns c = search needs
+
+pub literal-row-spec : {M : Type 1} → statement M
+literal-row-spec =
+    tie.close
+    (tie.spec
+    cast-middle
+    cast-high
+    mul-result
+    add-result
+    mul-result-2
+    add-result-2
+    returns)

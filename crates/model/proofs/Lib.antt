@@ -1,0 +1,5 @@
+-- The laws that the functions' proofs cite.
+pub mod Holding
+pub mod Modelled
+pub mod Placing
+pub mod Gathering

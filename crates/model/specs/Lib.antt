@@ -1,0 +1,3 @@
+-- What the model's functions answer, over the tables.
+pub mod Held
+pub mod Listed

@@ -1,0 +1,305 @@
+-- `terms::put` meets its contract: by the kind of the field, each store is that of the definition.
+-- Assumes nothing.
+use mathlib.Core.Path.{subst}
+use Prim.Native.Nat.{_<_}
+use native.Mathlib.Omega.{arith}
+use borrow.Author.Needs.{needs}
+use Rattle.query.specs.declared.Field.{Field}
+use Rattle.terms.specs.Tables.{Room}
+use Rattle.terms.proofs.put.Statement.{statement}
+use Rattle.terms.proofs.put.Tie as tie
+
+-- there is room for a field of the kind that was told, arm by arm
+room-base : (f : tie.After-field) → f .before .before .args .counts .bases < 256
+room-base f = subst (λ (field : Field). Room field (f .before .before .args .counts)) (f .field .given .1) (f .before .before .pre)
+
+room-boolean : (f : tie.After-field2) → f .before .before .args .counts .booleans < 64
+room-boolean f = subst (λ (field : Field). Room field (f .before .before .args .counts)) (f .field2 .given .1) (f .before .before .pre)
+
+room-variable : (f : tie.After-enum-told) → f .before .before .args .counts .arrays < 48
+room-variable f = subst (λ (field : Field). Room field (f .before .before .args .counts)) (f .enum-told .given .1) (f .before .before .pre)
+
+room-write : (f : tie.After-field3) → (f .before .before .args .counts .arrays < 48) × (f .before .before .args .counts .sources < 304) × (f .before .before .args .counts .edges < 112)
+room-write f = subst (λ (field : Field). Room field (f .before .before .args .counts)) (f .field3 .given .1) (f .before .before .pre)
+
+room-conditional : (f : tie.After-field4) → (f .before .before .args .counts .arrays < 48) × (f .before .before .args .counts .edges < 112)
+room-conditional f = subst (λ (field : Field). Room field (f .before .before .args .counts)) (f .field4 .given .1) (f .before .before .pre)
+
+room-read : (f : tie.After-field5) → (f .before .before .args .counts .bases < 256) × (f .before .before .args .counts .sources < 304)
+room-read f = subst (λ (field : Field). Room field (f .before .before .args .counts)) (f .field5 .given .1) (f .before .before .pre)
+
+room-equality : (f : tie.After-field6) → (f .before .before .args .counts .booleans < 64) × (f .before .before .args .counts .edges < 112)
+room-equality f = subst (λ (field : Field). Room field (f .before .before .args .counts)) (f .field6 .given .1) (f .before .before .pre)
+
+cast-base : tie.Need-cast-base
+cast-base c = search needs
+
+cast-boolean : tie.Need-cast-boolean
+cast-boolean c = search needs
+
+cast-array : tie.Need-cast-array
+cast-array c = search needs
+
+cast-source : tie.Need-cast-source
+cast-source c = search needs
+
+cast-edge : tie.Need-cast-edge
+cast-edge c = search needs
+
+enum-known-field : tie.Need-enum-known-field
+enum-known-field c = search needs
+
+mul-values : tie.Need-mul-values
+mul-values c = omega (arith, room-base (c .before))
+
+element-write-values : tie.Need-element-write-values
+element-write-values c = omega (arith, room-base (c .before))
+
+mul-reads : tie.Need-mul-reads
+mul-reads c = omega (arith, room-base (c .before))
+
+element-write-reads : tie.Need-element-write-reads
+element-write-reads c = omega (arith, room-base (c .before))
+
+add-more-bases : tie.Need-add-more-bases
+add-more-bases c = omega (arith, room-base (c .before))
+
+returns : tie.Need-returns
+returns c = rw (c .before .field .given .1)
+
+enum-known-field-2 : tie.Need-enum-known-field-2
+enum-known-field-2 c = search needs
+
+element-write-truths : tie.Need-element-write-truths
+element-write-truths c = omega (arith, room-boolean (c .before))
+
+add-more-booleans : tie.Need-add-more-booleans
+add-more-booleans c = omega (arith, room-boolean (c .before))
+
+returns-2 : tie.Need-returns-2
+returns-2 c = rw (c .before .field2 .given .1)
+
+enum-told : tie.Need-enum-told
+enum-told c = search needs
+
+add-more-arrays : tie.Need-add-more-arrays
+add-more-arrays c = omega (arith, room-variable c)
+
+returns-3 : tie.Need-returns-3
+returns-3 c = rw (c .enum-told .given .1)
+
+enum-known-field-3 : tie.Need-enum-known-field-3
+enum-known-field-3 c = search needs
+
+cast-beneath : tie.Need-cast-beneath
+cast-beneath c = search needs
+
+cast-index : tie.Need-cast-index
+cast-index c = search needs
+
+cast-value : tie.Need-cast-value
+cast-value c = search needs
+
+source-row-requires : tie.Need-source-row-requires
+source-row-requires c κs = search needs
+
+mul-sources : tie.Need-mul-sources
+mul-sources c = omega (arith, room-write (c .before .before .before .before .before))
+
+element-write-sources : tie.Need-element-write-sources
+element-write-sources c = omega (arith, room-write (c .before .before .before .before .before))
+
+edge-row-requires : tie.Need-edge-row-requires
+edge-row-requires c κs = search needs
+
+mul-edges : tie.Need-mul-edges
+mul-edges c = omega (arith, room-write (c .before .before .before .before .before .before))
+
+element-write-edges : tie.Need-element-write-edges
+element-write-edges c = omega (arith, room-write (c .before .before .before .before .before .before))
+
+add-more-arrays-2 : tie.Need-add-more-arrays-2
+add-more-arrays-2 c = omega (arith, room-write (c .before .before .before .before .before .before))
+
+add-more-sources : tie.Need-add-more-sources
+add-more-sources c = omega (arith, room-write (c .before .before .before .before .before .before))
+
+add-more-edges : tie.Need-add-more-edges
+add-more-edges c = omega (arith, room-write (c .before .before .before .before .before .before))
+
+returns-4 : tie.Need-returns-4
+returns-4 c = rw (c .before .before .before .before .before .before .field3 .given .1, c .before .source-row .ensures, c .edge-row .ensures)
+
+enum-known-field-4 : tie.Need-enum-known-field-4
+enum-known-field-4 c = search needs
+
+cast-chooser : tie.Need-cast-chooser
+cast-chooser c = search needs
+
+cast-if-true : tie.Need-cast-if-true
+cast-if-true c = search needs
+
+cast-if-false : tie.Need-cast-if-false
+cast-if-false c = search needs
+
+edge-row-requires-2 : tie.Need-edge-row-requires-2
+edge-row-requires-2 c κs = search needs
+
+mul-edges-2 : tie.Need-mul-edges-2
+mul-edges-2 c = omega (arith, room-conditional (c .before .before .before .before .before))
+
+element-write-edges-2 : tie.Need-element-write-edges-2
+element-write-edges-2 c = omega (arith, room-conditional (c .before .before .before .before .before))
+
+add-more-arrays-3 : tie.Need-add-more-arrays-3
+add-more-arrays-3 c = omega (arith, room-conditional (c .before .before .before .before .before))
+
+add-more-edges-2 : tie.Need-add-more-edges-2
+add-more-edges-2 c = omega (arith, room-conditional (c .before .before .before .before .before))
+
+returns-5 : tie.Need-returns-5
+returns-5 c = rw (c .before .before .before .before .before .field4 .given .1, c .edge-row2 .ensures)
+
+enum-known-field-5 : tie.Need-enum-known-field-5
+enum-known-field-5 c = search needs
+
+cast-from : tie.Need-cast-from
+cast-from c = search needs
+
+cast-index-2 : tie.Need-cast-index-2
+cast-index-2 c = search needs
+
+mul-values-2 : tie.Need-mul-values-2
+mul-values-2 c = omega (arith, room-read (c .before .before .before))
+
+element-write-values-2 : tie.Need-element-write-values-2
+element-write-values-2 c = omega (arith, room-read (c .before .before .before))
+
+read-row-requires : tie.Need-read-row-requires
+read-row-requires c κs = search needs
+
+mul-reads-2 : tie.Need-mul-reads-2
+mul-reads-2 c = omega (arith, room-read (c .before .before .before .before))
+
+element-write-reads-2 : tie.Need-element-write-reads-2
+element-write-reads-2 c = omega (arith, room-read (c .before .before .before .before))
+
+source-row-requires-2 : tie.Need-source-row-requires-2
+source-row-requires-2 c κs = search needs
+
+mul-sources-2 : tie.Need-mul-sources-2
+mul-sources-2 c = omega (arith, room-read (c .before .before .before .before .before))
+
+element-write-sources-2 : tie.Need-element-write-sources-2
+element-write-sources-2 c = omega (arith, room-read (c .before .before .before .before .before))
+
+add-more-bases-2 : tie.Need-add-more-bases-2
+add-more-bases-2 c = omega (arith, room-read (c .before .before .before .before .before))
+
+add-more-sources-2 : tie.Need-add-more-sources-2
+add-more-sources-2 c = omega (arith, room-read (c .before .before .before .before .before))
+
+returns-6 : tie.Need-returns-6
+returns-6 c = rw (c .before .before .before .before .before .field5 .given .1, c .before .read-row .ensures, c .source-row2 .ensures)
+
+enum-known-field-6 : tie.Need-enum-known-field-6
+enum-known-field-6 c = search needs
+
+cast-left : tie.Need-cast-left
+cast-left c = search needs
+
+cast-right : tie.Need-cast-right
+cast-right c = search needs
+
+element-write-truths-2 : tie.Need-element-write-truths-2
+element-write-truths-2 c = omega (arith, room-equality (c .before .before .before))
+
+edge-row-requires-3 : tie.Need-edge-row-requires-3
+edge-row-requires-3 c κs = search needs
+
+mul-edges-3 : tie.Need-mul-edges-3
+mul-edges-3 c = omega (arith, room-equality (c .before .before .before .before))
+
+element-write-edges-3 : tie.Need-element-write-edges-3
+element-write-edges-3 c = omega (arith, room-equality (c .before .before .before .before))
+
+add-more-booleans-2 : tie.Need-add-more-booleans-2
+add-more-booleans-2 c = omega (arith, room-equality (c .before .before .before .before))
+
+add-more-edges-3 : tie.Need-add-more-edges-3
+add-more-edges-3 c = omega (arith, room-equality (c .before .before .before .before))
+
+returns-7 : tie.Need-returns-7
+returns-7 c = rw (c .before .before .before .before .field6 .given .1, c .edge-row3 .ensures)
+
+pub put-spec : {M : Type 1} → statement M
+put-spec =
+    tie.close
+    (tie.spec
+    cast-base
+    cast-boolean
+    cast-array
+    cast-source
+    cast-edge
+    enum-known-field
+    mul-values
+    element-write-values
+    mul-reads
+    element-write-reads
+    add-more-bases
+    returns
+    enum-known-field-2
+    element-write-truths
+    add-more-booleans
+    returns-2
+    enum-told
+    add-more-arrays
+    returns-3
+    enum-known-field-3
+    cast-beneath
+    cast-index
+    cast-value
+    source-row-requires
+    mul-sources
+    element-write-sources
+    edge-row-requires
+    mul-edges
+    element-write-edges
+    add-more-arrays-2
+    add-more-sources
+    add-more-edges
+    returns-4
+    enum-known-field-4
+    cast-chooser
+    cast-if-true
+    cast-if-false
+    edge-row-requires-2
+    mul-edges-2
+    element-write-edges-2
+    add-more-arrays-3
+    add-more-edges-2
+    returns-5
+    enum-known-field-5
+    cast-from
+    cast-index-2
+    mul-values-2
+    element-write-values-2
+    read-row-requires
+    mul-reads-2
+    element-write-reads-2
+    source-row-requires-2
+    mul-sources-2
+    element-write-sources-2
+    add-more-bases-2
+    add-more-sources-2
+    returns-6
+    enum-known-field-6
+    cast-left
+    cast-right
+    element-write-truths-2
+    edge-row-requires-3
+    mul-edges-3
+    element-write-edges-3
+    add-more-booleans-2
+    add-more-edges-3
+    returns-7)
