@@ -11,21 +11,18 @@ use borrow.Author.Tests.{le-leb, lt-leb, lt-ltb, le-ltb, ltb-true, ltb-false, ne
 use lib.Dec.{ltb}
 use lib.ListN.{length, take, length-map}
 use lib.Seq.{take-append-seam}
-use Rattle.paper.specs.Lists.{range}
 use Rattle.paper.specs.Fields.{array}
 use Rattle.paper.specs.Terms.{given, assigned}
-use Rattle.paper.specs.Edges.{Source, sources}
 use Rattle.paper.specs.Cells.{Cell, cells}
 use Rattle.paper.specs.Load.{load}
 use Rattle.paper.specs.Load as Load
 use Rattle.paper.specs.Answers.{look, list, writtenOver}
-use Rattle.meaning.proofs.Lists.{range-length}
 use Rattle.meaning.proofs.Cells.{cells-few}
 use Rattle.meaning.proofs.Called.{look-none}
 use Rattle.meaning.proofs.Demands.{refused-alike}
 use Rattle.terms.specs.Tables.{Tables}
 use Rattle.reach.specs.Reached.{opensIn, sourcesIn}
-use Rattle.reach.proofs.Paper.{sourceAt, sources-same}
+use Rattle.reach.proofs.Paper.{sources-count}
 use Rattle.lemma.specs.Pairs.{Numbers, foundOf}
 use Rattle.model.specs.Held.{ValueOf}
 use Rattle.model.specs.Listed.{listedIn, indexOf, valueOf, CellsOf}
@@ -146,9 +143,5 @@ module _ {bytes : List ℕ} {t : Tables} {ruling : Ruling} (known : Judged bytes
 
       -- there are at most as many as sources
       pub lists-few : used ≤ 304
-      lists-few = omega (arith, used-is, cells-few (known .query .terms) (assigned (known .query .guess)) a, sources-few)
-        where
-          sources-few : length (sources (known .query .terms)) ≤ 304
-          sources-few =
-              let count = t .counts .sources in
-              omega (arith, ap (λ (l : List Source). length l) (sources-same (known .holds) (known .graph)), length-map (range 0 count) (sourceAt t), range-length 0 count, known .graph .few-sources)
+      lists-few =
+          omega (arith, used-is, cells-few (known .query .terms) (assigned (known .query .guess)) a, sources-count (known .holds) (known .graph), known .graph .few-sources)

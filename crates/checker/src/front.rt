@@ -1,7 +1,8 @@
 // The front of every call: a query is loaded into tables that the caller owns, marked, and searched for its conflicting pair.
+ghost use Prim.Native.Nat.{_≤_};
 ghost use lib.ListN.{getD};
 ghost use Rattle.terms.specs.Tables.{tables, Sized};
-ghost use Rattle.reach.specs.Reached.{openTo, sourcesOf};
+ghost use Rattle.reach.specs.Reached.{openTo, sourcesOf, rowsIn, maxRows};
 ghost use Rattle.reach.specs.Steps.{Within};
 ghost use Rattle.lemma.specs.Between.{LemmaBetween};
 ghost use Rattle.checker.specs.Fronted.{Unruled, Ruled, Fronted, Paired};
@@ -13,11 +14,16 @@ use paper::MAX_BOOLEANS;
 use paper::MAX_EDGES;
 use paper::MAX_LITERALS;
 use paper::MAX_SOURCES;
+use reach::MAX_PARTS;
+use reach::MAX_ROWS;
+use reach::ROW_PARTS;
 use reach::mark;
 use terms::Counts;
 
 // So many sources have rows of their own size: a small query clears no large table.
 const FEW: usize = 32;
+
+const FEW_PARTS: usize = FEW * ROW_PARTS;
 
 // What is ruled on the tables: the number of pairs, and the conflicting pair.
 pub struct Ruling {
@@ -42,11 +48,11 @@ fn rule<'a>(
     sources: &'a [u32; MAX_SOURCES],
     count: usize,
     arrays: usize,
-    rows: &mut [u64],
+    rows: &mut [u16],
     next: &mut [u16],
     clear: &mut [bool],
 ) -> Ruling
-    requires { ⌜ Unruled (now edges) ways (sourcesOf (now values) (now sources) count) arrays (now rows) (now next) (now clear) ⌝ }
+    requires { ⌜ Unruled (now edges) ways (sourcesOf (now values) (now sources) count) arrays (rowsIn (now rows)) (now next) (now clear) ⌝ }
     ensures { λ r. ⌜ Ruled (openTo (now (values .entry)) (now (truths .entry)) (now (edges .entry)) ways) (sourcesOf (now (values .entry)) (now (sources .entry)) count) arrays r ⌝ }
 {
     let pairs = mark(
@@ -74,11 +80,11 @@ fn rule_alone<'a>(
     count: usize,
     arrays: usize,
 ) -> Ruling
-    requires { ⌜ Within (now edges) ways (sourcesOf (now values) (now sources) count) arrays ⌝ }
+    requires { ⌜ Within (now edges) ways (sourcesOf (now values) (now sources) count) arrays × (count ≤ maxRows) ⌝ }
     ensures { λ r. ⌜ Ruled (openTo (now (values .entry)) (now (truths .entry)) (now (edges .entry)) ways) (sourcesOf (now (values .entry)) (now (sources .entry)) count) arrays r ⌝ }
 {
     if count <= FEW {
-        let mut few_rows = [0u64; FEW];
+        let mut few_rows = [0u16; FEW_PARTS];
         let mut few_next = [0u16; FEW];
         let mut few_clear = [false; FEW];
         return rule(
@@ -94,9 +100,9 @@ fn rule_alone<'a>(
             &mut few_clear,
         );
     }
-    let mut rows = [0u64; MAX_SOURCES];
-    let mut next = [0u16; MAX_SOURCES];
-    let mut clear = [false; MAX_SOURCES];
+    let mut rows = [0u16; MAX_PARTS];
+    let mut next = [0u16; MAX_ROWS];
+    let mut clear = [false; MAX_ROWS];
     rule(
         values,
         truths,

@@ -14,8 +14,8 @@ use borrow.Author.Tests.{eq-eqb, ne-eqb}
 use lib.ListN.{getD, set}
 use lib.Seq.{getD-set-other}
 use Rattle.paper.specs.Lists.{range}
-use Rattle.reach.specs.Reached.{Sources, originAt, valueAt, NextOf, assignedAt}
-use Rattle.lemma.specs.Pairs.{Numbers, clashOf, alikeOf, clashIn, pairAmong, pairIn}
+use Rattle.reach.specs.Reached.{Sources, bit, originAt, valueAt, NextOf, assignedAt}
+use Rattle.lemma.specs.Pairs.{Numbers, clashOf, settledBy, clashIn, pairAmong, pairIn, Shared}
 use Rattle.lemma.proofs.Ranges.{range-from, range-end, find-skip}
 
 -- a mark that stands where one was put is the one that was put
@@ -35,7 +35,7 @@ module _ (s : Sources) (rows : List ℕ) where
 
   -- source k has the index value, the value and the row of source i
   abbrev pub Alike : (i k : ℕ) → Type 0
-  Alike i k = (valueAt s k ≡ valueAt s i) × (assignedAt s k ≡ assignedAt s i) × (getD rows k 0 ≡ getD rows i 0)
+  Alike i k = (valueAt s k ≡ valueAt s i) × (assignedAt s k ≡ assignedAt s i) × ((a : ℕ) → bit (getD rows k 0) a ≡ bit (getD rows i 0) a)
 
   pub rest-all : pairIn s rows ≡ restFrom 0
   unfolding pairIn restFrom
@@ -79,7 +79,7 @@ module _ (s : Sources) (rows : List ℕ) where
           side (no past) = free-link i t next same link j (omega (arith, other, past)) below
 
   free-alike : (i k : ℕ) → i < k → Alike i k → Free i (s .count) → Free k (s .count)
-  free-alike i k later alike free j above below = rw (alike .0, alike .1, alike .2) (free j (omega arith) below)
+  free-alike i k later alike free j above below = rw (alike .0, alike .1, alike .2 (originAt s j)) (free j (omega arith) below)
 
   -- the marks of the sources from i on: each that is marked conflicts with none
   abbrev pub Cleared : (i : ℕ) → (clear : List Bool) → Type 0
@@ -103,20 +103,20 @@ module _ (s : Sources) (rows : List ℕ) where
       go (inl is) = is
       go (inr alike) = free-alike i k (omega arith) alike free
 
-  -- a mark is put where it was, or where source t is like source i
-  pub marked-put : (i t : ℕ) (clear : List Bool) → i < t → t < s .count → valueAt s t ≡ valueAt s i → Marked i clear
-      → Marked i (set clear t (alikeOf (getD clear t false) (assignedAt s i) (assignedAt s t) (getD rows i 0) (getD rows t 0)))
-  marked-put i t clear later within same all k above inside marked = go (ℕ-discrete k t)
+  -- a mark is put where it was, or where source t, which does not conflict with source i, has its origin in the row
+  pub marked-put : (i t : ℕ) (clear : List Bool) → i < t → t < s .count → valueAt s t ≡ valueAt s i → Shared s rows
+      → clashOf (assignedAt s i) (assignedAt s t) (getD rows i 0) (originAt s t) ≡ false → Marked i clear → Marked i (set clear t (settledBy (getD clear t false) (getD rows i 0) (originAt s t)))
+  marked-put i t clear later within same shared clash all k above inside marked = go (ℕ-discrete k t)
     where
       new : Bool
-      new = alikeOf (getD clear t false) (assignedAt s i) (assignedAt s t) (getD rows i 0) (getD rows t 0)
+      new = settledBy (getD clear t false) (getD rows i 0) (originAt s t)
 
-      put : (known : Bool) → getD clear t false ≡ known → Dec (assignedAt s i ≡ assignedAt s t) → Dec (getD rows i 0 ≡ getD rows t 0)
-          → alikeOf known (assignedAt s i) (assignedAt s t) (getD rows i 0) (getD rows t 0) ≡ true → Free t (s .count) ⊎ Alike i t
-      put true known values both is = all t later within known
-      put false known (yes values) (yes both) is = inr (same, sym values, sym both)
-      put false known (no values) both is = absurd (false≢true (sym (rw (ne-eqb _ _ values)) ∙ is))
-      put false known (yes values) (no both) is = absurd (false≢true (sym (rw (eq-eqb _ _ values, ne-eqb _ _ both)) ∙ is))
+      put : (known : Bool) → getD clear t false ≡ known → Dec (assignedAt s i ≡ assignedAt s t) → Dec (bit (getD rows i 0) (originAt s t) ≡ 1)
+          → settledBy known (getD rows i 0) (originAt s t) ≡ true → Free t (s .count) ⊎ Alike i t
+      put true known values stands is = all t later within known
+      put false known values (no apart) is = absurd (false≢true (sym (ne-eqb _ _ apart) ∙ is))
+      put false known (yes values) (yes stands) is = inr (same, sym values, shared i t (omega arith) within same stands)
+      put false known (no values) (yes stands) is = absurd (false≢true (sym clash ∙ rw (ne-eqb _ _ values, eq-eqb _ _ stands)))
 
       go : Dec (k ≡ t) → Free k (s .count) ⊎ Alike i k
       go (yes here) =

@@ -22,9 +22,9 @@ pub record Numbers : Type 0 where
 abbrev pub clashOf : (one other row origin : ℕ) → Bool
 clashOf one other row origin = cond (eqb one other) false (eqb (bit row origin) 1)
 
--- a source that was known to conflict with nothing later, or has the value and the row of one that is tried
-abbrev pub alikeOf : (known : Bool) → (one other row others : ℕ) → Bool
-alikeOf known one other row others = cond known true (cond (eqb one other) (eqb row others) false)
+-- a source that was known to conflict with nothing later, or has its origin in the row of one that is tried
+abbrev pub settledBy : (known : Bool) → (row origin : ℕ) → Bool
+settledBy known row origin = cond known true (eqb (bit row origin) 1)
 
 -- "Two sources conflict if their index values are equal, their values differ, and the first reaches the origin of the second"
 abbrev pub clashIn : Sources → (rows : List ℕ) → (i j : ℕ) → Bool
@@ -49,11 +49,17 @@ foundOf Nothing = none
 abbrev pub Linked : Sources → (links : List ℕ) → Type 0
 Linked s links = (k : ℕ) → k < s .count → NextOf s k (getD links k 0)
 
+-- a source whose origin stands in the row of another of its index value has the same row
+abbrev pub Shared : Sources → (rows : List ℕ) → Type 0
+Shared s rows =
+    (i j : ℕ) → i < s .count → j < s .count → valueAt s j ≡ valueAt s i → bit (getD rows i 0) (originAt s j) ≡ 1 → (a : ℕ) → bit (getD rows j 0) a ≡ bit (getD rows i 0) a
+
 -- the tables are within their bounds, each source is linked, and none is known yet to conflict with nothing
 pub record Searchable (s : Sources) (rows links : List ℕ) (clear : List Bool) : Type 0 where
   pub sources : s .count ≤ maxSources
   pub origin : (k : ℕ) → k < s .count → originAt s k < 48
   pub linked : Linked s links
+  pub shared : Shared s rows
   pub rows-long : s .count ≤ length rows
   pub links-long : s .count ≤ length links
   pub clear-long : s .count ≤ length clear

@@ -8,8 +8,8 @@ ghost use mathlib.Core.Path.{_≡_};
 ghost use mathlib.Core.Bool.{cond};
 ghost use Prim.Native.Nat.{_<_};
 ghost use Rattle.paper.specs.Sizes.{maxArrays};
-ghost use Rattle.reach.specs.Reached.{sourcesOf};
-ghost use Rattle.lemma.specs.Pairs.{clashOf, alikeOf, pairIn, foundOf, Searchable};
+ghost use Rattle.reach.specs.Reached.{sourcesOf, rowsIn};
+ghost use Rattle.lemma.specs.Pairs.{clashOf, settledBy, pairIn, foundOf, Searchable};
 
 // "their values differ, and the first reaches the origin of the second"
 fn clashes(one: u64, other: u64, row: u64, origin: usize) -> bool
@@ -22,17 +22,15 @@ fn clashes(one: u64, other: u64, row: u64, origin: usize) -> bool
     (row >> origin) % 2 == 1
 }
 
-// Is a source known to conflict with no later one: was it known, or has it the value and the row of an earlier one that is tried now?
-fn alike(known: bool, one: u64, other: u64, row: u64, others: u64) -> bool
-    ensures { λ r. ⌜ r ≡ alikeOf known one other row others ⌝ }
+// Need a source not be tried: was that known, or has the one that is tried now, which does not conflict with it, its origin in its row?
+fn settles(known: bool, row: u64, origin: usize) -> bool
+    requires { ⌜ origin < maxArrays ⌝ }
+    ensures { λ r. ⌜ r ≡ settledBy known row origin ⌝ }
 {
     if known {
         return true;
     }
-    if one != other {
-        return false;
-    }
-    row == others
+    (row >> origin) % 2 == 1
 }
 
 // The first source to try: the next one of the index value, or none where it is known that none conflicts.
@@ -46,18 +44,18 @@ fn first_tried(known: bool, next: u16, count: usize) -> usize
 }
 
 // "the least first source s that stands in a pair with a later one, and with it the least later source t". Only sources of one index
-// value conflict, so the later ones are taken along the links. A source with the value and the row of an earlier one that conflicts
-// with none conflicts with none either, and is not tried again.
+// value conflict, so the later ones are taken along the links. A source whose origin an earlier one reaches has its row, since reach
+// goes both ways; where they do not conflict it has its value too, conflicts with none if the earlier one does not, and is not tried again.
 pub fn first_pair<'a>(
     values: &'a [u64; MAX_BASES],
     sources: &'a [u32; MAX_SOURCES],
     count: usize,
-    rows: &'a [u64],
+    rows: &'a [u16],
     next: &'a [u16],
     clear: &mut [bool],
 ) -> Found
-    requires { ⌜ Searchable (sourcesOf (now values) (now sources) count) (now rows) (now next) (now clear) ⌝ }
-    ensures { λ r. ⌜ foundOf r ≡ pairIn (sourcesOf (now (values .entry)) (now (sources .entry)) count) (now (rows .entry)) ⌝ }
+    requires { ⌜ Searchable (sourcesOf (now values) (now sources) count) (rowsIn (now rows)) (now next) (now clear) ⌝ }
+    ensures { λ r. ⌜ foundOf r ≡ pairIn (sourcesOf (now (values .entry)) (now (sources .entry)) count) (rowsIn (now (rows .entry))) ⌝ }
 {
     let mut found = Found::Nothing;
     let mut s = 0;
@@ -74,7 +72,7 @@ pub fn first_pair<'a>(
                 found = Found::Pair(s, t);
                 break 'first;
             }
-            clear[t] = alike(clear[t], value, other, row, reach::row(rows, t));
+            clear[t] = settles(clear[t], row, origin);
             t = next[t] as usize;
         }
         s += 1;

@@ -9,21 +9,24 @@ use mathlib.Core.Bool.{Bool, true, false, cond}
 use mathlib.Core.List.{List, [], _∷_, map}
 use mathlib.Core.Option.{Option, none}
 use lib.Dec.{eqb}
-use lib.ListN.{length, getD, take}
+use lib.ListN.{length, getD, take, length-map}
 use Rattle.paper.specs.Lists.{isSome, count, sum, range}
 use Rattle.paper.specs.Fields.{Series, array}
 use Rattle.paper.specs.Load.{load, Loaded}
 use Rattle.paper.specs.Terms.{Query, given, assigned}
 use Rattle.paper.specs.Edges.{Source, sources, Edge}
 use Rattle.paper.specs.Reach.{indexValue, near, stepCost, distances, reachesAt, reaches, pairs}
+use Rattle.meaning.proofs.Lists.{range-length}
 use Rattle.meaning.proofs.Built.{are-bytes}
+use Rattle.meaning.proofs.Accepted.{accepted}
+use Rattle.meaning.proofs.Sources.{sources-bound}
 use Rattle.terms.specs.Tables.{Tables, sourceIn, edgesIn}
 use Rattle.terms.specs.Faults.{countIn}
 use Rattle.terms.specs.Holds.{Holds}
 use Rattle.terms.specs.Graph.{Each, SourceWithin, EdgeWithin, Graphed}
 use Rattle.terms.specs.Loads.{Loads, loadedAs}
 use Rattle.terms.proofs.Ways.{accepted-graph}
-use Rattle.reach.specs.Reached.{opensIn, sourcesIn, reachedIn, bit, originAt, valueAt, assignedAt, RowOf, pairsOf}
+use Rattle.reach.specs.Reached.{opensIn, sourcesIn, reachedIn, bit, maxRows, originAt, valueAt, assignedAt, RowOf, pairsOf}
 use Rattle.reach.specs.Steps.{EndsBelow, Lent, Within}
 use Rattle.reach.proofs.Counts.{count-same}
 
@@ -99,6 +102,11 @@ module _ {query : Query} {t : Tables} (held : Holds query t) (graph : Graphed qu
       ∙ map-id (map sourceIn (take (t .counts .sources) (t .sources)))
       ∙ graph .sources
 
+  -- as many as it has
+  pub sources-count : t .counts .sources ≡ length (sources (query .terms))
+  sources-count =
+      sym (length-map (range 0 (t .counts .sources)) (sourceAt t) ∙ range-length 0 (t .counts .sources)) ∙ ap (λ (list : List Source). length list) sources-same
+
   -- and so can the sources with them
   pub within : Within (t .edges) (t .counts .edges) (sourcesIn t) (t .counts .arrays)
   within =
@@ -152,3 +160,8 @@ module _ {bytes : List ℕ} {refusal offset : ℕ} {t : Tables} (loads : Loads b
 
   pub has-graph : ((i : ℕ) → getD bytes i 0 < 256) → Graphed (loads .query) t
   has-graph small = accepted-graph bytes (are-bytes bytes small) accepted-is (loads .holds)
+
+  -- it has no more sources than there are rows
+  pub rows-suffice : ((i : ℕ) → getD bytes i 0 < 256) → t .counts .sources ≤ maxRows
+  rows-suffice small =
+      omega (arith, sources-count (loads .holds) (has-graph small), sources-bound (accepted 32 bytes (loads .query) (are-bytes bytes small) accepted-is))

@@ -1,9 +1,9 @@
 -- 01, Sources, edges, reach, over the open edges and the sources that the lent rows say: what a row, a pair count, a link and a hop count are to be.
 -- Assumes nothing.
-use Prim.Native.Nat.{ℕ, _/_, _%_, _^_, _<_, _≤_}
+use Prim.Native.Nat.{ℕ, _+_, _*_, _/_, _%_, _^_, _<_, _≤_}
 use mathlib.Core.Path.{_≡_}
 use mathlib.Core.Bool.{Bool, cond}
-use mathlib.Core.List.{List, [], map}
+use mathlib.Core.List.{List, [], _∷_, map}
 use mathlib.Core.Option.{Option, none, some}
 use lib.ListN.{getD, take}
 use Rattle.paper.specs.Sizes.{maxArrays, maxSources}
@@ -44,6 +44,17 @@ reachedIn e n x origin a = isSome (getD (near stepCost (e x) n origin n) a none)
 -- bit a of a row
 abbrev pub bit : (row a : ℕ) → ℕ
 bit row a = row / 2 ^ a % 2
+
+-- "It never exceeds 48 times 302": so many rows suffice
+abbrev pub maxRows : ℕ
+maxRows = 302
+
+-- the rows that a table of parts says: three numbers of sixteen bits to a row, the lowest first, and row after row
+unfoldable pub rowsIn : (parts : List ℕ) → List ℕ
+rowsIn [] = []
+rowsIn (low ∷ []) = []
+rowsIn (low ∷ middle ∷ []) = []
+rowsIn (low ∷ middle ∷ high ∷ parts) = (low + middle * 65536 + high * 4294967296) ∷ rowsIn parts
 
 -- the origin, the index value and the assigned value of source k
 abbrev pub originAt : Sources → ℕ → ℕ

@@ -15,8 +15,8 @@ use terms::graph::way_of;
 ghost use mathlib.Core.Path.{_≡_};
 ghost use Prim.Native.Nat.{ℕ, _^_, _<_};
 ghost use lib.ListN.{length, getD, set, replicate};
-ghost use Rattle.paper.specs.Sizes.{maxArrays};
-ghost use Rattle.reach.specs.Reached.{openTo, sourcesOf, RowOf, Marked, HopCounts};
+ghost use Rattle.paper.specs.Sizes.{maxArrays, maxSources};
+ghost use Rattle.reach.specs.Reached.{openTo, sourcesOf, rowsIn, RowOf, Marked, HopCounts};
 ghost use Rattle.reach.specs.Steps.{Lent, Adjacent, bitSet, edgeSet, mayAt, Apart, Gathered, RowTurned, Turnable, Spreads, SharedOrMade, Markable, Unmarked, ValueMarkedOver, LevelPut, Hops};
 
 // A row, and how many array terms it marks.
@@ -25,19 +25,38 @@ pub struct Spread {
     pub marked: usize,
 }
 
+// A row has a bit for each array term: three numbers of sixteen bits, the lowest first, and row after row. No accepted query has more than
+// 302 sources (meaning, proofs/Sources.antt), and so 1,812 bytes are the rows of any.
+pub const ROW_PARTS: usize = 3;
+
+pub const MAX_ROWS: usize = 302;
+
+pub const MAX_PARTS: usize = MAX_ROWS * ROW_PARTS;
+
 // The row of source k, and its store: whoever reads or writes a row does it here.
-pub fn row(rows: &[u64], k: usize) -> u64
-    requires { ⌜ k < length (now rows) ⌝ }
-    ensures { λ r. ⌜ r ≡ getD (now (rows .entry)) k 0 ⌝ }
+pub fn row(rows: &[u16], k: usize) -> u64
+    requires { ⌜ (k < maxSources) × (k < length (rowsIn (now rows))) ⌝ }
+    ensures { λ r. ⌜ r ≡ getD (rowsIn (now (rows .entry))) k 0 ⌝ }
 {
-    rows[k]
+    let at = k * ROW_PARTS;
+    let next = at + 1;
+    let last = at + 2;
+    let low = rows[at] as u64;
+    let middle = rows[next] as u64;
+    let high = rows[last] as u64;
+    low + middle * 65536 + high * 4294967296
 }
 
-fn put_row(rows: &mut [u64], k: usize, row: u64)
-    requires { ⌜ k < length (now rows) ⌝ }
-    ensures { λ r. ⌜ now (rows .exit) ≡ set (now (rows .entry)) k row ⌝ }
+fn put_row(rows: &mut [u16], k: usize, row: u64)
+    requires { ⌜ (k < maxSources) × (k < length (rowsIn (now rows))) × (row < 2 ^ 48) ⌝ }
+    ensures { λ r. ⌜ rowsIn (now (rows .exit)) ≡ set (rowsIn (now (rows .entry))) k row ⌝ }
 {
-    rows[k] = row;
+    let at = k * ROW_PARTS;
+    let next = at + 1;
+    let last = at + 2;
+    rows[at] = (row % 65536) as u16;
+    rows[next] = (row / 65536 % 65536) as u16;
+    rows[last] = (row / 4294967296) as u16;
 }
 
 // Puts bit b into word a, or takes it out.
@@ -224,11 +243,11 @@ fn mark_value<'a>(
     sources: &'a [u32; MAX_SOURCES],
     count: usize,
     first: usize,
-    rows: &mut [u64],
+    rows: &mut [u16],
     next: &mut [u16],
 ) -> usize
-    requires { ⌜ Markable (now neighbours) (sourcesOf (now values) (now sources) count) first (now rows) (now next) ⌝ }
-    ensures { λ r. ⌜ ValueMarkedOver (now (neighbours .entry)) (sourcesOf (now (values .entry)) (now (sources .entry)) count) first (now (rows .entry)) (now (rows .exit)) (now (next .entry)) (now (next .exit)) r ⌝ }
+    requires { ⌜ Markable (now neighbours) (sourcesOf (now values) (now sources) count) first (rowsIn (now rows)) (now next) ⌝ }
+    ensures { λ r. ⌜ ValueMarkedOver (now (neighbours .entry)) (sourcesOf (now (values .entry)) (now (sources .entry)) count) first (rowsIn (now (rows .entry))) (rowsIn (now (rows .exit))) (now (next .entry)) (now (next .exit)) r ⌝ }
 {
     let begun = sources[first];
     let x = index_value(values, begun);
@@ -265,11 +284,11 @@ pub fn mark<'a>(
     sources: &'a [u32; MAX_SOURCES],
     count: usize,
     arrays: usize,
-    rows: &mut [u64],
+    rows: &mut [u16],
     next: &mut [u16],
 ) -> usize
-    requires { ⌜ Unmarked (now edges) ways (sourcesOf (now values) (now sources) count) arrays (now rows) (now next) ⌝ }
-    ensures { λ r. ⌜ Marked (openTo (now (values .entry)) (now (truths .entry)) (now (edges .entry)) ways) (sourcesOf (now (values .entry)) (now (sources .entry)) count) arrays (now (rows .exit)) (now (next .exit)) r ⌝ }
+    requires { ⌜ Unmarked (now edges) ways (sourcesOf (now values) (now sources) count) arrays (rowsIn (now rows)) (now next) ⌝ }
+    ensures { λ r. ⌜ Marked (openTo (now (values .entry)) (now (truths .entry)) (now (edges .entry)) ways) (sourcesOf (now (values .entry)) (now (sources .entry)) count) arrays (rowsIn (now (rows .exit))) (now (next .exit)) r ⌝ }
 {
     let mut pairs = 0usize;
     let mut first = 0;

@@ -8,10 +8,11 @@ use mathlib.Core.List.{List}
 use mathlib.Core.Path.{_≡_, refl, sym, ap, _∙_, subst}
 use borrow.Author.Needs.{needs}
 use lib.ListN.{length}
-use Rattle.reach.specs.Reached.{Edges, openTo, Sources, sourcesOf, Fit}
+use Rattle.reach.specs.Reached.{Edges, openTo, rowsIn, Sources, sourcesOf, Fit}
 use Rattle.reach.specs.Steps.{Adjacent, Turnable}
 use Rattle.reach.proofs.Words.{lent-ends, lent-most}
 use Rattle.reach.proofs.Turns.{turn-first, turn-next}
+use Rattle.reach.proofs.Parts.{rows-length}
 use Rattle.reach.proofs.Links.{Met, met-most, value-most, none-met, first-of, met-past, met-on, met-same, all-met}
 use Rattle.reach.proofs.mark.Statement.{statement}
 use Rattle.reach.proofs.mark.Tie as tie
@@ -19,7 +20,7 @@ use Rattle.reach.proofs.mark.Tie as tie
 abbrev Inv-loop : tie.InvT-loop
 Inv-loop values truths edges ways sources count arrays rows₀ next₀ pairs₀ first₀ value₀ neighbours₀ again rows next pairs first value neighbours =
     (first ≤ count) × (length rows ≡ length rows₀) × (length next ≡ length next₀)
-    × Met (openTo values truths edges ways) (sourcesOf values sources count) arrays rows next first pairs
+    × Met (openTo values truths edges ways) (sourcesOf values sources count) arrays (rowsIn rows) next first pairs
     × Turnable values truths edges ways value neighbours
 
 abbrev μ-loop : tie.MeasureT-loop
@@ -60,7 +61,7 @@ gather-requires c κs = (lent-most (c .before .before .before .pre .within .lent
 loop-holds : tie.Need-loop-holds Inv-loop μ-loop
 loop-holds c =
     let s = c .before .before .before .before in
-    (omega arith, refl, refl, none-met (opened s) (lent-to s) (s .args .arrays) (s .args .rows .now) (s .args .next .now) (s .pre .free), turn-first (s .args .values .now) (s .args .truths .now) (s .args .edges .now) (s .args .ways) _ (enough s) 0 (c .gather .ensures .adjacent))
+    (omega arith, refl, refl, none-met (opened s) (lent-to s) (s .args .arrays) (rowsIn (s .args .rows .now)) (s .args .next .now) (s .pre .free), turn-first (s .args .values .now) (s .args .truths .now) (s .args .edges .now) (s .args .ways) _ (enough s) 0 (c .gather .ensures .adjacent))
 
 mul-link : tie.Need-mul-link Inv-loop μ-loop
 mul-link c = omega (arith, start (c .before) .pre .within .sources)
@@ -92,8 +93,8 @@ mark-value-requires c κs =
       narrow = c .before .before .before .turn .ensures .small;
       sources = s .pre .within .sources;
       origin = λ k given. omega (arith, s .pre .within .origin k given, s .pre .within .lent .arrays);
-      first-of = first-of (opened s) (lent-to s) (s .args .arrays) (h .rows) (h .next) (h .first) (h .pairs) (h .inv .3) (i .before .before .loop-test .taken) (i .if1 .taken);
-      rows-long = omega (arith, h .inv .1, s .pre .rows-long);
+      first-of = first-of (opened s) (lent-to s) (s .args .arrays) (rowsIn (h .rows)) (h .next) (h .first) (h .pairs) (h .inv .3) (i .before .before .loop-test .taken) (i .if1 .taken);
+      rows-long = omega (arith, rows-length (h .rows), rows-length (s .args .rows .now), h .inv .1, s .pre .rows-long);
       next-long = omega (arith, h .inv .2, s .pre .next-long);
     }
 
@@ -122,24 +123,24 @@ loop-again c =
     let given = c .before .before .loop-test .taken in
     ⊎-elim
     (λ w.
-    let rows = w .8 .last .1 .1 .1 .1 .1 .0 in
+    let rows = rowsIn (w .8 .last .1 .1 .1 .1 .1 .0) in
     let next = w .8 .last .1 .1 .1 .1 .1 .1 .0 in
     let marked = w .8 .ensures (opened s) n (fit s) (at-value s (w .2 .ensures) (w .4 .ensures)) in (
       omega (arith, given),
       ap length (w .13) ∙ w .8 .kept .1 .1 .1 .1 .1 .0 ∙ h .inv .1,
       ap length (w .14) ∙ w .8 .kept .1 .1 .1 .1 .1 .1 .0 ∙ h .inv .2,
       met-same (opened s) (lent-to s) n rows next (h .first + 1) (h .pairs + w .8 .result)
-          (met-on (opened s) (lent-to s) n (h .rows) (h .next) (h .first) (h .pairs) (h .inv .3) given (w .0 .taken) rows next (w .8 .result) marked)
-          (c .if1 .rows) (c .if1 .next) (c .if1 .pairs) (w .13) (w .14) (w .15),
+          (met-on (opened s) (lent-to s) n (rowsIn (h .rows)) (h .next) (h .first) (h .pairs) (h .inv .3) given (w .0 .taken) rows next (w .8 .result) marked)
+          (rowsIn (c .if1 .rows)) (c .if1 .next) (c .if1 .pairs) (ap rowsIn (w .13)) (w .14) (w .15),
       turnable-same s (w .17) (w .16) (turn-next (s .args .values .now) (s .args .truths .now) (s .args .edges .now) (s .args .ways) _ (enough s) _ (w .4 .ensures)),
     ))
     (λ w. (
       omega (arith, given),
       ap length (w .1) ∙ h .inv .1,
       ap length (w .2) ∙ h .inv .2,
-      met-same (opened s) (lent-to s) n (h .rows) (h .next) (h .first + 1) (h .pairs)
-          (met-past (opened s) (lent-to s) n (h .rows) (h .next) (h .first) (h .pairs) (h .inv .3) given (w .0 .left))
-          (c .if1 .rows) (c .if1 .next) (c .if1 .pairs) (w .1) (w .2) (w .3),
+      met-same (opened s) (lent-to s) n (rowsIn (h .rows)) (h .next) (h .first + 1) (h .pairs)
+          (met-past (opened s) (lent-to s) n (rowsIn (h .rows)) (h .next) (h .first) (h .pairs) (h .inv .3) given (w .0 .left))
+          (rowsIn (c .if1 .rows)) (c .if1 .next) (c .if1 .pairs) (ap rowsIn (w .1)) (w .2) (w .3),
       turnable-same s (w .5) (w .4) (h .inv .4),
     ))
     (c .if1 .came)
@@ -154,7 +155,7 @@ returns : tie.Need-returns Inv-loop μ-loop
 returns c =
     let h = c .before .loop in
     let s = start (c .before) in
-    all-met (opened s) (lent-to s) (s .args .arrays) (h .rows) (h .next) (h .first) (h .pairs) (h .inv .3) (omega (arith, h .inv .0))
+    all-met (opened s) (lent-to s) (s .args .arrays) (rowsIn (h .rows)) (h .next) (h .first) (h .pairs) (h .inv .3) (omega (arith, h .inv .0))
 
 pub mark-spec : {M : Type 1} → statement M
 mark-spec =

@@ -4,7 +4,7 @@ use Prim.Native.Nat.{ℕ, _<_}
 use borrow.Author.Needs.{needs}
 use denote.Ref.{now}
 use lib.ListN.{getD}
-use Rattle.reach.proofs.Paper.{within, has-graph}
+use Rattle.reach.proofs.Paper.{within, has-graph, rows-suffice}
 use Rattle.checker.proofs.front.judge.Statement.{statement}
 use Rattle.checker.proofs.front.judge.Tie as tie
 
@@ -33,7 +33,7 @@ rule-alone-requires : tie.Need-rule-alone-requires
 rule-alone-requires c κs =
     let e = c .before .before .before .before .before .before .before in
     let loads = e .before .before .load .ensures in
-    within (loads .holds) (has-graph loads (e .if1 .left) (small (e .before .before)))
+    (within (loads .holds) (has-graph loads (e .if1 .left) (small (e .before .before))), rows-suffice loads (e .if1 .left) (small (e .before .before)))
 
 returns-2 : tie.Need-returns-2
 returns-2 c =

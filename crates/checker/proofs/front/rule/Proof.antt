@@ -11,7 +11,8 @@ mark-requires c κs = c .before .before .before .before .before .pre .unmarked
 first-pair-requires : tie.Need-first-pair-requires
 first-pair-requires c κs =
     let m = c .before .before .before .before .before .before .before in
-    searchable (m .before .before .before .before .before .before .pre) (m .mark .ensures) (m .mark .kept .1 .1 .1 .1 .1 .1 .1 .0) (m .mark .kept .1 .1 .1 .1 .1 .1 .1 .1 .0)
+    let s = m .before .before .before .before .before .before in
+    searchable (s .args .values .now) (s .args .truths .now) (s .args .rows .now) (m .mark .last .1 .1 .1 .1 .1 .1 .1 .0) (s .pre) (m .mark .ensures) (m .mark .kept .1 .1 .1 .1 .1 .1 .1 .0) (m .mark .kept .1 .1 .1 .1 .1 .1 .1 .1 .0)
 
 same-length : tie.Need-same-length
 same-length c = search needs

@@ -17,7 +17,7 @@ slice-aggregate-rule-3 c = search needs
 rule-requires : tie.Need-rule-requires
 rule-requires c κs =
     let few = c .before .before .before in
-    unruled (few .before .pre) 32 (few .if1 .taken)
+    unruled (few .before .pre .0) 32 (few .if1 .taken)
 
 returns : tie.Need-returns
 returns c = search needs
@@ -34,7 +34,7 @@ slice-aggregate-rule-6 c = search needs
 rule-requires-2 : tie.Need-rule-requires-2
 rule-requires-2 c κs =
     let s = c .before .before .before .before in
-    unruled (s .pre) 304 (s .pre .sources)
+    unruled (s .pre .0) 302 (s .pre .1)
 
 returns-2 : tie.Need-returns-2
 returns-2 c = search needs

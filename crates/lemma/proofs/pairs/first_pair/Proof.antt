@@ -3,13 +3,13 @@
 -- Assumes nothing.
 use Prim.Native.Nat.{ℕ, _-_, _<_, _≤_}
 use native.Mathlib.Omega.{arith}
-use mathlib.Core.Path.{_≡_, refl, sym, ap, _∙_, subst}
+use mathlib.Core.Path.{_≡_, refl, sym, ap, ap₂, _∙_, subst}
 use mathlib.Core.Bool.{Bool, false}
 use mathlib.Core.List.{List}
 use lib.ListN.{length, getD, set, length-set}
-use Rattle.reach.specs.Reached.{Sources, sourcesOf, valueAt}
+use Rattle.reach.specs.Reached.{rowsIn, Sources, sourcesOf, valueAt}
 use Rattle.lemma.specs.declared.Found.{Found}
-use Rattle.lemma.specs.Pairs.{clashOf, alikeOf, pairIn, foundOf}
+use Rattle.lemma.specs.Pairs.{clashOf, settledBy, pairIn, foundOf}
 use Rattle.lemma.proofs.Pairing.{restFrom, Free, Cleared, Marked, rest-all, rest-end, rest-hit, rest-free, clash-at, free-over, cleared-first, marked-first, cleared-next, marked-put, begins, begins-at}
 use Rattle.lemma.proofs.pairs.first_pair.Statement.{statement}
 use Rattle.lemma.proofs.pairs.first_pair.Tie as tie
@@ -30,7 +30,7 @@ Inv-loop values sources count rows next clear₀ found₀ s row source value t�
     × (s < t)
     × (t ≤ count)
     × (length clear ≡ length clear₀)
-    × Trying (sourcesOf values sources count) rows clear s t
+    × Trying (sourcesOf values sources count) (rowsIn rows) clear s t
 
 abbrev μ-loop : tie.MeasureT-loop
 μ-loop values sources count rows next clear₀ found₀ s row source value t₀ clear found t = count - t
@@ -45,7 +45,7 @@ Inv-first values sources count rows next clear₀ found₀ s₀ clear found s =
     (found ≡ Found.Nothing)
     × (s ≤ count)
     × (length clear ≡ length clear₀)
-    × Searching (sourcesOf values sources count) rows clear s
+    × Searching (sourcesOf values sources count) (rowsIn rows) clear s
 
 abbrev μ-first : tie.MeasureT-first
 μ-first values sources count rows next clear₀ found₀ s₀ clear found s = count - s
@@ -78,10 +78,10 @@ first-holds : tie.Need-first-holds Inv-loop μ-loop Inv-first μ-first
 first-holds c =
     let s = c .before .before .before in
     let sources = lent-to s in
-    (refl, omega arith, refl, record { left = rest-all sources (s .args .rows .now); cleared = cleared-first sources (s .args .rows .now) (s .args .clear .now) (s .pre .unknown) })
+    (refl, omega arith, refl, record { left = rest-all sources (rowsIn (s .args .rows .now)); cleared = cleared-first sources (rowsIn (s .args .rows .now)) (s .args .clear .now) (s .pre .unknown) })
 
 row-requires : tie.Need-row-requires Inv-loop μ-loop Inv-first μ-first
-row-requires c κs = omega (arith, start (c .before) .pre .rows-long)
+row-requires c κs = (omega (arith, start (c .before) .pre .sources), omega (arith, start (c .before) .pre .rows-long))
 
 mul-source : tie.Need-mul-source Inv-loop μ-loop Inv-first μ-first
 mul-source c = omega (arith, start (c .before .before) .pre .sources)
@@ -112,7 +112,7 @@ loop-holds c =
     let inside : s < e .args .count = omega arith in
     let next = getD (e .args .next .now) s 0 in
     let known = getD (f .first .clear) s false in
-    let rows = e .args .rows .now in
+    let rows = rowsIn (e .args .rows .now) in
     let bounds = begins-at s next (e .args .count) known inside (next-later e s inside) (next-within e s inside) (c .first-tried .result) (c .first-tried .ensures) in
     let cleared = f .first .inv .3 .cleared in
     let begun = begins (lent-to e) rows s next known (cleared s (omega arith) inside) (e .pre .linked s inside) _ (c .first-tried .ensures) in (
@@ -140,63 +140,63 @@ clashes-requires c κs =
     let l = c .before .before .before .before in
     rw (c .origin-of .ensures) (start (trying-of l) .pre .origin (l .loop .t) (omega arith))
 
-slice-read-alike : tie.Need-slice-read-alike Inv-loop μ-loop Inv-first μ-first
-slice-read-alike c = omega (arith, clear-still (c .before .before .before .before .before .before .before))
+slice-read-settles : tie.Need-slice-read-settles Inv-loop μ-loop Inv-first μ-first
+slice-read-settles c = omega (arith, clear-still (c .before .before .before .before .before .before .before))
 
-row-requires-2 : tie.Need-row-requires-2 Inv-loop μ-loop Inv-first μ-first
-row-requires-2 c κs = omega (arith, start (trying-of (c .before .before .before .before .before .before .before)) .pre .rows-long)
-
-alike-requires : tie.Need-alike-requires Inv-loop μ-loop Inv-first μ-first
-alike-requires c κs = tt
+settles-requires : tie.Need-settles-requires Inv-loop μ-loop Inv-first μ-first
+settles-requires c κs =
+    let l = c .before .before .before .before .before .before .before in
+    rw (c .before .before .before .origin-of .ensures) (start (trying-of l) .pre .origin (l .loop .t) (omega arith))
 
 slice-write-clear : tie.Need-slice-write-clear Inv-loop μ-loop Inv-first μ-first
-slice-write-clear c = omega (arith, clear-still (c .before .before .before .before .before .before .before .before .before))
+slice-write-clear c = omega (arith, clear-still (c .before .before .before .before .before .before .before .before))
 
 mul-t : tie.Need-mul-t Inv-loop μ-loop Inv-first μ-first
-mul-t c = omega (arith, start (trying-of (c .before .before .before .before .before .before .before .before .before)) .pre .sources)
+mul-t c = omega (arith, start (trying-of (c .before .before .before .before .before .before .before .before)) .pre .sources)
 
 shared-slice-read-t : tie.Need-shared-slice-read-t Inv-loop μ-loop Inv-first μ-first
-shared-slice-read-t c = omega (arith, start (trying-of (c .before .before .before .before .before .before .before .before .before .before)) .pre .links-long)
+shared-slice-read-t c = omega (arith, start (trying-of (c .before .before .before .before .before .before .before .before .before)) .pre .links-long)
 
 cast-t : tie.Need-cast-t Inv-loop μ-loop Inv-first μ-first
 cast-t c =
-    let l = c .before .before .before .before .before .before .before .before .before .before in
+    let l = c .before .before .before .before .before .before .before .before .before in
     let e = start (trying-of l) in
     omega (arith, e .pre .sources, next-within e (l .loop .t) (omega arith))
 
 loop-less : tie.Need-loop-less Inv-loop μ-loop Inv-first μ-first
 loop-less c =
-    let l = c .before .before .before .before .before .before .before .before .before .before in
+    let l = c .before .before .before .before .before .before .before .before .before in
     let e = start (trying-of l) in
     omega (arith, next-later e (l .loop .t) (omega arith), next-within e (l .loop .t) (omega arith))
 
 loop-again : tie.Need-loop-again Inv-loop μ-loop Inv-first μ-first
 loop-again c =
-    let l = c .before .before .before .before .before .before .before .before .before .before in
+    let l = c .before .before .before .before .before .before .before .before .before in
     let f = trying-of l in
     let e = start f in
     let s = f .first .s in
     let t = l .loop .t in
-    let rows = e .args .rows .now in
+    let rows = rowsIn (e .args .rows .now) in
     let clear = l .loop .clear in
     let sources = lent-to e in
-    let inside : t < e .args .count = c .before .before .before .before .before .before .before .before .before .loop-test .taken in
+    let inside : t < e .args .count = c .before .before .before .before .before .before .before .before .loop-test .taken in
     let value = l .before .before .before .before .assigned-value .ensures in
-    let other = c .before .before .before .before .before .before .before .assigned-value2 .ensures in
+    let other = c .before .before .before .before .before .before .assigned-value2 .ensures in
     let row = l .before .before .before .before .before .before .row .ensures in
-    let clash = sym (ap₄ clashOf value other row (c .before .before .before .before .before .before .origin-of .ensures)) ∙ sym (c .before .before .before .before .before .clashes .ensures) ∙ c .before .before .before .before .if1 .left in
-    let put = c .before .alike .ensures ∙ ap₄ (alikeOf (getD clear t false)) value other row (c .before .before .row2 .ensures) in
+    let origin = c .before .before .before .before .before .origin-of .ensures in
+    let clash = sym (ap₄ clashOf value other row origin) ∙ sym (c .before .before .before .before .clashes .ensures) ∙ c .before .before .before .if1 .left in
+    let put = c .before .settles .ensures ∙ ap₂ (settledBy (getD clear t false)) row origin in
     let trying = l .loop .inv .4 in
     let same = trying .same inside in
     let link = e .pre .linked t inside in (
       l .loop .inv .0,
       omega (arith, next-later e t inside),
       next-within e t inside,
-      length-set clear t (c .before .alike .result) ∙ l .loop .inv .3,
+      length-set clear t (c .before .settles .result) ∙ l .loop .inv .3,
       record {
         same = λ further. link .same further ∙ same;
         free = free-over sources rows s t _ (trying .free) same (clash-at sources rows s t same clash) link;
-        marked = subst (λ (new : Bool). Marked sources rows s (set clear t new)) (sym put) (marked-put sources rows s t clear (l .loop .inv .1) inside same (trying .marked));
+        marked = subst (λ (new : Bool). Marked sources rows s (set clear t new)) (sym put) (marked-put sources rows s t clear (l .loop .inv .1) inside same (e .pre .shared) clash (trying .marked));
       },
     )
 
@@ -212,7 +212,7 @@ first-again c =
     let f = trying-of l in
     let e = start f in
     let s = f .first .s in
-    let rows = e .args .rows .now in
+    let rows = rowsIn (e .args .rows .now) in
     let sources = lent-to e in
     let trying = l .loop .inv .4 in
     let free : Free sources rows s (e .args .count) = λ j above below. trying .free j above (omega arith) in (
@@ -232,7 +232,7 @@ returns : tie.Need-returns Inv-loop μ-loop Inv-first μ-first
 returns c =
     let f = c .before in
     let e = start f in
-    ap foundOf (f .first .inv .0) ∙ sym (f .first .inv .3 .left ∙ rest-end (lent-to e) (e .args .rows .now) (f .first .s) (omega arith))
+    ap foundOf (f .first .inv .0) ∙ sym (f .first .inv .3 .left ∙ rest-end (lent-to e) (rowsIn (e .args .rows .now)) (f .first .s) (omega arith))
 
 same-length-2 : tie.Need-same-length-2 Inv-loop μ-loop Inv-first μ-first
 same-length-2 c =
@@ -246,7 +246,7 @@ returns-2 c =
     let e = start f in
     let s = f .first .s in
     let t = l .loop .t in
-    let rows = e .args .rows .now in
+    let rows = rowsIn (e .args .rows .now) in
     let sources = lent-to e in
     let inside : t < e .args .count = omega arith in
     let clash = sym (ap₄ clashOf (l .before .before .before .before .assigned-value .ensures) (c .before .before .before .assigned-value2 .ensures) (l .before .before .before .before .before .before .row .ensures) (c .before .before .origin-of .ensures)) ∙ sym (c .before .clashes .ensures) ∙ c .if1 .taken in
@@ -276,9 +276,8 @@ first-pair-spec =
     assigned-value-requires-2
     origin-of-requires
     clashes-requires
-    slice-read-alike
-    row-requires-2
-    alike-requires
+    slice-read-settles
+    settles-requires
     slice-write-clear
     mul-t
     shared-slice-read-t
