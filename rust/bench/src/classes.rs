@@ -32,6 +32,10 @@ impl Class {
             "consistent"
         }
     }
+
+    pub fn name_and_verdict(&self) -> String {
+        format!("{}, {}", self.name, self.verdict())
+    }
 }
 
 #[derive(Clone, Copy)]

@@ -10,13 +10,18 @@ const CONSISTENT: u32 = 0;
 const CONFLICT: u32 = 1;
 const REFUSED: u32 = 2;
 
+/// The least index that the library refuses, and by which number. The second
+/// program takes any index.
+const INDEX_LIMIT: u64 = 1 << 32;
+pub const NO_SUCH_CELL: u64 = 11;
+
 /// What a buffer is filled with, so that a write of 0 is seen.
 const BYTE: u8 = 0xAA;
 const NUMBER: i32 = -7;
 
 /// A query, a cell of its newest array at an index that most sources have,
 /// and the buffers that answers go to.
-#[derive(PartialEq)]
+#[derive(Clone, PartialEq)]
 pub struct Question {
     query: Vec<u8>,
     array: u64,
@@ -36,6 +41,26 @@ impl Question {
             answer: vec![BYTE; LEMMA_BYTES],
             numbers: vec![NUMBER; CLAUSE_NUMBERS],
         }
+    }
+
+    /// The same with room for so many bytes of a lemma.
+    pub fn with_bytes(self, room: usize) -> Question {
+        Question { answer: vec![BYTE; room], ..self }
+    }
+
+    /// The same with room for so many numbers of clauses.
+    pub fn with_numbers(self, room: usize) -> Question {
+        Question { numbers: vec![NUMBER; room], ..self }
+    }
+
+    /// The same about the array after the newest.
+    pub fn past_the_arrays(self) -> Question {
+        Question { array: self.array + 1, ..self }
+    }
+
+    /// The same at the least index that is refused.
+    pub fn past_the_indices(self) -> Question {
+        Question { index: INDEX_LIMIT, ..self }
     }
 }
 
@@ -86,6 +111,7 @@ impl Contest for Lookup {
 
     fn second(question: &mut Question) -> Answer {
         match second::lookup(&question.query, question.array, question.index) {
+            Ok(_) if question.index >= INDEX_LIMIT => (REFUSED, [NO_SUCH_CELL, 0, 0, 0, 0]),
             Ok(value) => (CONSISTENT, [0, 0, value, 0, 0]),
             Err(refusal) => refused(refusal),
         }
@@ -120,11 +146,25 @@ fn refused(refusal: second::Refusal) -> Answer {
     (REFUSED, [u64::from(refusal.number), refusal.offset as u64, 0, 0, 0])
 }
 
+/// The number by which an answer refuses, if it does.
+pub fn refused_by((returned, report): Answer) -> Option<u64> {
+    (returned == REFUSED).then_some(report[0])
+}
+
+/// What an answer says, in words.
+pub fn told(answer: Answer) -> String {
+    match answer {
+        (CONSISTENT, _) => "answered consistent".to_string(),
+        (CONFLICT, _) => "answered conflict".to_string(),
+        (_, report) => format!("refused by {}", report[0]),
+    }
+}
+
 /// Ends the run where a contender answers otherwise than the library: in what
-/// is returned, in the report or in a buffer.
-pub fn assert_all_agree<C: Contest>(name: &str, query: &[u8]) {
+/// is returned, in the report or in a buffer. Gives what all answer.
+pub fn assert_all_agree<C: Contest>(name: &str, question: &Question) -> Answer {
     let asked = |call: &dyn Fn(&mut Question) -> Answer| {
-        let mut question = Question::about(query);
+        let mut question = question.clone();
         (call(&mut question), question)
     };
     let library = asked(&|question| C::TODAY.library(question));
@@ -140,4 +180,5 @@ pub fn assert_all_agree<C: Contest>(name: &str, query: &[u8]) {
     if let Some(before) = C::BEFORE {
         agree("earlier library", asked(&|question| before.library(question)));
     }
+    library.0
 }

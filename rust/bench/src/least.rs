@@ -1,7 +1,7 @@
 //! The least that a call through the C face costs: an empty query, which has
 //! no field, and a query of one byte, which is refused at once.
 
-use crate::contenders::{assert_all_agree, Contest};
+use crate::contenders::{assert_all_agree, Contest, Question};
 use crate::libraries::{Check, Clauses, Lookup};
 use crate::table::{before_columns, before_titles, cell, column};
 use crate::timing::{in_turn, libraries};
@@ -19,7 +19,7 @@ pub fn print() {
 }
 
 fn measure<C: Contest>(name: &str, query: &[u8]) {
-    assert_all_agree::<C>(name, query);
+    assert_all_agree::<C>(name, &Question::about(query));
     let times = in_turn(&libraries::<C>(), query);
     print_line(name, cell(&times[0]) + &before_columns::<C>(&times, query));
 }

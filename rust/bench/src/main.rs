@@ -1,32 +1,60 @@
 //! The library beside the second program in one run, and beside the archive of
 //! an earlier commit where one is linked: the time of each call by class of
 //! query, the stack that a call takes, and the least that a call costs. Nothing
-//! is asserted of a time; that all answer the same is.
+//! is asserted of a time; that all answer the same is. `bench stack LIMIT`
+//! measures the stack alone, and fails where a call takes more bytes than that.
 
+mod cases;
 mod classes;
 mod clock;
 mod contenders;
+mod damages;
 mod least;
 mod libraries;
+mod most;
 mod processor;
 mod stack;
 mod table;
 mod timing;
 
-use classes::classes;
+use classes::{classes, Class};
 use libraries::{Check, Clauses, Lookup};
+use std::env;
+use std::process::ExitCode;
 
-fn main() {
+fn main() -> ExitCode {
+    let words: Vec<String> = env::args().skip(1).collect();
     println!("{}", processor::name());
+    let good = match &words.iter().map(String::as_str).collect::<Vec<&str>>()[..] {
+        [] => {
+            compare(&classes());
+            true
+        }
+        ["stack", limit] => {
+            let limit = limit.parse().expect("the limit is a number of bytes");
+            most::within(limit, &most::measure(&classes()))
+        }
+        _ => {
+            eprintln!("usage: bench [stack LIMIT]");
+            false
+        }
+    };
+    if good {
+        ExitCode::SUCCESS
+    } else {
+        ExitCode::FAILURE
+    }
+}
+
+fn compare(classes: &[Class]) {
     println!(
         "nanoseconds of processor time of one call: the median of {} rounds (least..most)",
         timing::ROUNDS
     );
     println!("a ratio is the median of the rounds' own");
-    let classes = classes();
-    table::print::<Check>(&classes);
-    table::print::<Lookup>(&classes);
-    table::print::<Clauses>(&classes);
+    table::print::<Check>(classes);
+    table::print::<Lookup>(classes);
+    table::print::<Clauses>(classes);
     least::print();
-    stack::print(&classes);
+    most::measure(classes);
 }

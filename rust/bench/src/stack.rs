@@ -2,20 +2,25 @@
 //! ours that is filled with a pattern, and before the thread ends it looks how
 //! far down the pattern is gone. An empty call is measured alike and taken
 //! off. Two patterns, so that a byte which happens to equal one is seen.
+//! The report of a call, and the frame of ours that makes it, are part of the
+//! figure.
 
 #![allow(unsafe_code)]
 
-use crate::classes::Class;
 use crate::contenders::{Contest, Question};
-use crate::libraries::{Check, Clauses, Lookup};
 use std::alloc::{alloc, dealloc, Layout};
 use std::ffi::{c_int, c_ulong, c_void};
 use std::hint::black_box;
+use std::sync::OnceLock;
 
 /// Far more than a call takes.
-const STACK_BYTES: usize = 4 << 20;
+const PAINTED_BYTES: usize = 256 << 10;
 const PAGE_BYTES: usize = 4_096;
 const PATTERNS: [u8; 2] = [0xA5, 0x5A];
+
+/// More than an empty call takes, where the thread's start has written nothing
+/// further down: that would hide as much of a call.
+const EMPTY_BYTES: usize = 64;
 
 /// At least as large as the C library's own.
 #[repr(C, align(16))]
@@ -62,62 +67,101 @@ extern "C" fn start(argument: *mut c_void) -> *mut c_void {
 
 /// How many bytes below the calling frame are overwritten by the call.
 fn depth_with(call: &mut (dyn FnMut() + Send), pattern: u8) -> usize {
-    let layout = Layout::from_size_align(STACK_BYTES, PAGE_BYTES).expect("a whole layout");
+    let layout = Layout::from_size_align(PAINTED_BYTES, PAGE_BYTES).expect("a whole layout");
     // SAFETY: the layout is not empty; the memory is filled before it is used,
     // and freed after the thread that ran on it has ended. The attributes are
     // set up before they are used, and `errand` outlives the thread.
     unsafe {
         let low = alloc(layout);
         assert!(!low.is_null(), "memory for a stack");
-        low.write_bytes(pattern, STACK_BYTES);
+        low.write_bytes(pattern, PAINTED_BYTES);
         let mut errand = Errand { call, low, pattern, depth: 0 };
         let mut attributes = Attributes([0; 256]);
         let mut thread = 0;
         let made = [
             pthread_attr_init(&mut attributes),
-            pthread_attr_setstack(&mut attributes, low.cast(), STACK_BYTES),
+            pthread_attr_setstack(&mut attributes, low.cast(), PAINTED_BYTES),
             pthread_create(&mut thread, &attributes, start, (&raw mut errand).cast()),
             pthread_join(thread, std::ptr::null_mut()),
             pthread_attr_destroy(&mut attributes),
         ];
         assert_eq!(made, [0; 5], "a thread on a stack of ours");
+        assert_eq!(low.read(), pattern, "the stack of ours is large enough");
         dealloc(low, layout);
         errand.depth
     }
 }
 
+fn deepest(call: &mut (dyn FnMut() + Send)) -> usize {
+    PATTERNS.map(|pattern| depth_with(call, pattern)).into_iter().max().unwrap_or(0)
+}
+
 /// The bytes that the call takes, beyond an empty one.
 fn depth(call: &mut (dyn FnMut() + Send)) -> usize {
-    let deepest = |call: &mut (dyn FnMut() + Send)| {
-        PATTERNS.map(|pattern| depth_with(call, pattern)).into_iter().max().unwrap_or(0)
-    };
-    let empty = deepest(&mut || {});
+    static EMPTY: OnceLock<usize> = OnceLock::new();
+    let empty = *EMPTY.get_or_init(|| deepest(&mut || {}));
+    assert!(empty < EMPTY_BYTES, "nothing is written below the frame before the call");
     deepest(call).saturating_sub(empty)
 }
 
-/// What the call about this query takes in today's library, then in the earlier one.
-pub fn stacks<C: Contest>(query: &[u8]) -> Vec<usize> {
-    let mut question = Question::about(query);
+/// What the call takes in today's library, then in the earlier one.
+pub fn stacks<C: Contest>(question: &Question) -> Vec<usize> {
+    let mut question = question.clone();
     C::linked()
         .map(|function| depth(&mut || _ = black_box(function.library(&mut question))))
         .collect()
 }
 
-/// The most of all classes, for each call.
-pub fn print(classes: &[Class]) {
-    println!("\nthe most stack of a call, in bytes, over all classes");
-    line::<Check>(classes);
-    line::<Lookup>(classes);
-    line::<Clauses>(classes);
-}
+#[cfg(test)]
+mod tests {
+    use super::*;
+    use crate::classes::classes;
+    use crate::libraries::{Check, Clauses, Lookup};
 
-fn line<C: Contest>(classes: &[Class]) {
-    let mut most = vec![0; C::linked().count()];
-    for class in classes {
-        for (most, stack) in most.iter_mut().zip(stacks::<C>(&class.query)) {
-            *most = stack.max(*most);
+    const FILLED: usize = 5_000;
+
+    /// What the frame around the filled bytes may take.
+    const FRAME: usize = 1_000;
+
+    /// What the crate's own frames may take, as it says at its `STACK_BYTES`.
+    const CRATE: usize = 512;
+
+    fn filled(byte: u8) -> usize {
+        depth(&mut || {
+            let mut bytes = [byte; FILLED];
+            black_box(&mut bytes);
+        })
+    }
+
+    #[test]
+    fn filled_bytes_are_measured() {
+        let measured = filled(0);
+        assert!((FILLED..FILLED + FRAME).contains(&measured), "{measured}");
+    }
+
+    #[test]
+    fn bytes_filled_with_a_pattern_are_measured() {
+        for pattern in PATTERNS {
+            let measured = filled(pattern);
+            assert!((FILLED..FILLED + FRAME).contains(&measured), "{measured}");
         }
     }
-    print!("{:<10} {:>8}", C::NAME, most[0]);
-    println!("{}", most.get(1).map_or(String::new(), |before| format!(", before {before}")));
+
+    #[test]
+    fn an_empty_call_takes_nothing() {
+        assert_eq!(depth(&mut || {}), 0);
+    }
+
+    #[test]
+    fn the_crate_takes_little_more_than_the_library() {
+        for class in classes() {
+            let (query, question) = (&class.query, Question::about(&class.query));
+            let check = depth(&mut || _ = black_box(zunidelo::check(query)));
+            let lookup = depth(&mut || _ = black_box(zunidelo::lookup(query, 0, 0)));
+            let clauses = depth(&mut || _ = black_box(zunidelo::clauses(query)));
+            assert!(check < stacks::<Check>(&question)[0] + CRATE, "{check}");
+            assert!(lookup < stacks::<Lookup>(&question)[0] + CRATE, "{lookup}");
+            assert!(clauses < stacks::<Clauses>(&question)[0] + CRATE, "{clauses}");
+        }
+    }
 }

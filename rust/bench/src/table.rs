@@ -2,7 +2,7 @@
 //! that names the classes in which the library is much slower.
 
 use crate::classes::Class;
-use crate::contenders::{assert_all_agree, Contest};
+use crate::contenders::{assert_all_agree, Contest, Question};
 use crate::stack::stacks;
 use crate::timing::{in_turn, libraries, second_program, Times};
 
@@ -15,8 +15,8 @@ pub fn print<C: Contest>(classes: &[Class]) {
     println!("{}", before_titles::<C>());
     let mut slower = Vec::new();
     for class in classes {
-        let name = format!("{}, {}", class.name, class.verdict());
-        assert_all_agree::<C>(&name, &class.query);
+        let name = class.name_and_verdict();
+        assert_all_agree::<C>(&name, &Question::about(&class.query));
         if C::answers(class.conflict) {
             let ratio = print_row::<C>(class);
             if ratio > SLOWER {
@@ -58,7 +58,7 @@ pub fn cell(times: &Times) -> String {
 pub fn before_columns<C: Contest>(libraries: &[Times], query: &[u8]) -> String {
     let [library, before] = libraries else { return String::new() };
     let ratio = library.ratio_to(before);
-    let stacks = stacks::<C>(query);
+    let stacks = stacks::<C>(&Question::about(query));
     format!(" {} {ratio:>5.2} {:>6} {:>6}", cell(before), stacks[0], stacks[1])
 }
 
