@@ -67,6 +67,11 @@
  *
  * FORMAT of a query, of the lemma and of the clauses, and what a loop of guesses owes: docs/FORMAT.md.
  *
+ * STACK. A call needs at most ZUNIDELO_STACK_BYTES of stack, below the frame of its caller. This is measured, not proved: on x86-64, with
+ * the archive that tests/library makes, over the largest queries of every class in both verdicts and over every refusal, by tests/stack.
+ * On another processor, or in an archive that another compiler made, it may be a little more or less: tests/stack measures it there.
+ * Where memset is bound at its first use, the dynamic linker needs stack of its own for that, some 3 KB in glibc; -z now avoids it.
+ *
  * LINK with libzunidelo.a. The library calls nothing but memcpy and memset.
  */
 #ifndef ZUNIDELO_H
@@ -82,6 +87,9 @@ extern "C" {
 /* An answer buffer of so many bytes holds every lemma, and a run of so many numbers every lemma's clauses. */
 #define ZUNIDELO_LEMMA_BYTES 343
 #define ZUNIDELO_CLAUSE_NUMBERS 12625
+
+/* A call needs no more bytes of stack than these, on x86-64: see STACK above. */
+#define ZUNIDELO_STACK_BYTES 9500
 
 #define ZUNIDELO_CONSISTENT 0
 #define ZUNIDELO_CONFLICT 1

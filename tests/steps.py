@@ -26,6 +26,15 @@ def fail(what):
     say(f"FAILED: {what}")
 
 
+def count(good, what):
+    """One comparison, which passed, or failed and is named."""
+    global passed
+    if good:
+        passed += 1
+    else:
+        fail(what)
+
+
 def all_shown(line):
     return True
 

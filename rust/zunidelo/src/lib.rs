@@ -67,6 +67,17 @@ pub const LEMMA_BYTES: usize = 343;
 /// for it.
 pub const CLAUSE_NUMBERS: usize = 12_625;
 
+/// How many bytes of stack a call of the library needs at the most, below the
+/// frame of its caller. This is measured, not proved: on x86-64, over the
+/// largest queries of every class in both verdicts and over every refusal, by
+/// `tests/stack` of the product. On another processor it may be a little more
+/// or less.
+///
+/// The functions of this crate are such callers. In an optimised build their
+/// own frames take fewer than 512 bytes beside: [`check`] has a buffer of
+/// [`LEMMA_BYTES`] there, the others have no buffer on the stack.
+pub const STACK_BYTES: usize = 9_500;
+
 /// What a check says of a query.
 #[derive(Debug, Clone, PartialEq, Eq, Hash)]
 pub enum Verdict {
