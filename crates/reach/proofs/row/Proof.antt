@@ -8,7 +8,10 @@ use Rattle.reach.proofs.Parts.{rows-length, row-read}
 use Rattle.reach.proofs.row.Statement.{statement}
 use Rattle.reach.proofs.row.Tie as tie
 
--- a part has sixteen bits
+-- where the row's parts begin, and that each has sixteen bits
+abbrev at : tie.After-shared-slice-known3 → ℕ
+at c = c .before .before .before .args .k * 3
+
 small : (c : tie.After-shared-slice-known3) (i : ℕ) → getD (c .before .before .before .args .rows .now) i 0 < 65536
 small c i = c .before .before .shared-slice-known .given i .fits
 
@@ -46,19 +49,19 @@ shared-slice-read-high : tie.Need-shared-slice-read-high
 shared-slice-read-high c = omega (arith, c .before .before .before .pre .1, rows-length (c .before .before .before .args .rows .now))
 
 cast-high : tie.Need-cast-high
-cast-high c = record { fits = omega (arith, small c (c .before .before .before .args .k * 3 + 2)) }
+cast-high c = record { fits = omega (arith, small c (at c + 2)) }
 
 mul-result : tie.Need-mul-result
-mul-result c = record { fits = omega (arith, small c (c .before .before .before .args .k * 3), small c (c .before .before .before .args .k * 3 + 1), small c (c .before .before .before .args .k * 3 + 2)) }
+mul-result c = record { fits = omega (arith, small c (at c), small c (at c + 1), small c (at c + 2)) }
 
 add-result : tie.Need-add-result
-add-result c = record { fits = omega (arith, small c (c .before .before .before .args .k * 3), small c (c .before .before .before .args .k * 3 + 1), small c (c .before .before .before .args .k * 3 + 2)) }
+add-result c = record { fits = omega (arith, small c (at c), small c (at c + 1), small c (at c + 2)) }
 
 mul-result-2 : tie.Need-mul-result-2
-mul-result-2 c = record { fits = omega (arith, small c (c .before .before .before .args .k * 3), small c (c .before .before .before .args .k * 3 + 1), small c (c .before .before .before .args .k * 3 + 2)) }
+mul-result-2 c = record { fits = omega (arith, small c (at c), small c (at c + 1), small c (at c + 2)) }
 
 add-result-2 : tie.Need-add-result-2
-add-result-2 c = record { fits = omega (arith, small c (c .before .before .before .args .k * 3), small c (c .before .before .before .args .k * 3 + 1), small c (c .before .before .before .args .k * 3 + 2)) }
+add-result-2 c = record { fits = omega (arith, small c (at c), small c (at c + 1), small c (at c + 2)) }
 
 returns : tie.Need-returns
 returns c = row-read (c .before .before .before .args .rows .now) (c .before .before .before .args .k) (c .before .before .before .pre .1)
