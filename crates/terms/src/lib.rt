@@ -67,13 +67,9 @@ fn put(
     let arrays = counts.arrays;
     let sourced = counts.sources;
     let edged = counts.edges;
-    let base = bases as usize;
-    let boolean = booleans as usize;
-    let array = arrays as usize;
-    let source = sourced as usize;
-    let edge = edged as usize;
     match field {
         Field::FreeBase(value) => {
+            let base = bases as usize;
             values[base] = value;
             reads[base] = NO_READ;
             let more_bases = bases + 1;
@@ -86,6 +82,7 @@ fn put(
             };
         }
         Field::FreeBoolean(truth) => {
+            let boolean = booleans as usize;
             truths[boolean] = truth;
             let more_booleans = booleans + 1;
             return Counts {
@@ -110,6 +107,9 @@ fn put(
             let beneath = p.beneath as usize;
             let index = p.index as usize;
             let value = p.value as usize;
+            let array = arrays as usize;
+            let source = sourced as usize;
+            let edge = edged as usize;
             sources[source] = source_row(array, index, value);
             edges[edge] = edge_row(array, beneath, 0, index, DIFFERS);
             let more_arrays = arrays + 1;
@@ -127,6 +127,8 @@ fn put(
             let chooser = p.chooser as usize;
             let if_true = p.if_true as usize;
             let if_false = p.if_false as usize;
+            let array = arrays as usize;
+            let edge = edged as usize;
             edges[edge] = edge_row(array, if_true, if_false, chooser, CHOOSES);
             let more_arrays = arrays + 1;
             let more_edges = edged + 1;
@@ -141,6 +143,8 @@ fn put(
         Field::Read(p) => {
             let from = p.from as usize;
             let index = p.index as usize;
+            let base = bases as usize;
+            let source = sourced as usize;
             values[base] = p.value;
             reads[base] = read_row(from, index);
             sources[source] = source_row(from, index, base);
@@ -157,6 +161,8 @@ fn put(
         Field::Equality(p) => {
             let left = p.left as usize;
             let right = p.right as usize;
+            let boolean = booleans as usize;
+            let edge = edged as usize;
             truths[boolean] = p.truth;
             edges[edge] = edge_row(left, right, 0, boolean, EQUATES);
             let more_booleans = booleans + 1;

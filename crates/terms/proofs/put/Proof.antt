@@ -31,23 +31,11 @@ room-read f = subst (λ (field : Field). Room field (f .before .before .args .co
 room-equality : (f : tie.After-field6) → (f .before .before .args .counts .booleans < 64) × (f .before .before .args .counts .edges < 112)
 room-equality f = subst (λ (field : Field). Room field (f .before .before .args .counts)) (f .field6 .given .1) (f .before .before .pre)
 
-cast-base : tie.Need-cast-base
-cast-base c = search needs
-
-cast-boolean : tie.Need-cast-boolean
-cast-boolean c = search needs
-
-cast-array : tie.Need-cast-array
-cast-array c = search needs
-
-cast-source : tie.Need-cast-source
-cast-source c = search needs
-
-cast-edge : tie.Need-cast-edge
-cast-edge c = search needs
-
 enum-known-field : tie.Need-enum-known-field
 enum-known-field c = search needs
+
+cast-base : tie.Need-cast-base
+cast-base c = search needs
 
 mul-values : tie.Need-mul-values
 mul-values c = omega (arith, room-base (c .before))
@@ -69,6 +57,9 @@ returns c = rw (c .before .field .given .1)
 
 enum-known-field-2 : tie.Need-enum-known-field-2
 enum-known-field-2 c = search needs
+
+cast-boolean : tie.Need-cast-boolean
+cast-boolean c = search needs
 
 element-write-truths : tie.Need-element-write-truths
 element-write-truths c = omega (arith, room-boolean (c .before))
@@ -99,6 +90,15 @@ cast-index c = search needs
 
 cast-value : tie.Need-cast-value
 cast-value c = search needs
+
+cast-array : tie.Need-cast-array
+cast-array c = search needs
+
+cast-source : tie.Need-cast-source
+cast-source c = search needs
+
+cast-edge : tie.Need-cast-edge
+cast-edge c = search needs
 
 source-row-requires : tie.Need-source-row-requires
 source-row-requires c κs = search needs
@@ -142,6 +142,12 @@ cast-if-true c = search needs
 cast-if-false : tie.Need-cast-if-false
 cast-if-false c = search needs
 
+cast-array-2 : tie.Need-cast-array-2
+cast-array-2 c = search needs
+
+cast-edge-2 : tie.Need-cast-edge-2
+cast-edge-2 c = search needs
+
 edge-row-requires-2 : tie.Need-edge-row-requires-2
 edge-row-requires-2 c κs = search needs
 
@@ -168,6 +174,12 @@ cast-from c = search needs
 
 cast-index-2 : tie.Need-cast-index-2
 cast-index-2 c = search needs
+
+cast-base-2 : tie.Need-cast-base-2
+cast-base-2 c = search needs
+
+cast-source-2 : tie.Need-cast-source-2
+cast-source-2 c = search needs
 
 mul-values-2 : tie.Need-mul-values-2
 mul-values-2 c = omega (arith, room-read (c .before .before .before))
@@ -211,6 +223,12 @@ cast-left c = search needs
 cast-right : tie.Need-cast-right
 cast-right c = search needs
 
+cast-boolean-2 : tie.Need-cast-boolean-2
+cast-boolean-2 c = search needs
+
+cast-edge-3 : tie.Need-cast-edge-3
+cast-edge-3 c = search needs
+
 element-write-truths-2 : tie.Need-element-write-truths-2
 element-write-truths-2 c = omega (arith, room-equality (c .before .before .before))
 
@@ -236,12 +254,8 @@ pub put-spec : {M : Type 1} → statement M
 put-spec =
     tie.close
     (tie.spec
-    cast-base
-    cast-boolean
-    cast-array
-    cast-source
-    cast-edge
     enum-known-field
+    cast-base
     mul-values
     element-write-values
     mul-reads
@@ -249,6 +263,7 @@ put-spec =
     add-more-bases
     returns
     enum-known-field-2
+    cast-boolean
     element-write-truths
     add-more-booleans
     returns-2
@@ -259,6 +274,9 @@ put-spec =
     cast-beneath
     cast-index
     cast-value
+    cast-array
+    cast-source
+    cast-edge
     source-row-requires
     mul-sources
     element-write-sources
@@ -273,6 +291,8 @@ put-spec =
     cast-chooser
     cast-if-true
     cast-if-false
+    cast-array-2
+    cast-edge-2
     edge-row-requires-2
     mul-edges-2
     element-write-edges-2
@@ -282,6 +302,8 @@ put-spec =
     enum-known-field-5
     cast-from
     cast-index-2
+    cast-base-2
+    cast-source-2
     mul-values-2
     element-write-values-2
     read-row-requires
@@ -296,6 +318,8 @@ put-spec =
     enum-known-field-6
     cast-left
     cast-right
+    cast-boolean-2
+    cast-edge-3
     element-write-truths-2
     edge-row-requires-3
     mul-edges-3
