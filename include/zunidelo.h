@@ -89,7 +89,7 @@ extern "C" {
 #define ZUNIDELO_CLAUSE_NUMBERS 12625
 
 /* A call needs no more bytes of stack than these, on x86-64: see STACK above. */
-#define ZUNIDELO_STACK_BYTES 9500
+#define ZUNIDELO_STACK_BYTES 9000
 
 #define ZUNIDELO_CONSISTENT 0
 #define ZUNIDELO_CONFLICT 1

@@ -76,7 +76,7 @@ pub const CLAUSE_NUMBERS: usize = 12_625;
 /// The functions of this crate are such callers. In an optimised build their
 /// own frames take fewer than 512 bytes beside: [`check`] has a buffer of
 /// [`LEMMA_BYTES`] there, the others have no buffer on the stack.
-pub const STACK_BYTES: usize = 9_500;
+pub const STACK_BYTES: usize = 9_000;
 
 /// What a check says of a query.
 #[derive(Debug, Clone, PartialEq, Eq, Hash)]
