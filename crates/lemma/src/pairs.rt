@@ -8,8 +8,17 @@ ghost use mathlib.Core.Path.{_≡_};
 ghost use mathlib.Core.Bool.{cond};
 ghost use Prim.Native.Nat.{_<_};
 ghost use Rattle.paper.specs.Sizes.{maxArrays};
-ghost use Rattle.reach.specs.Reached.{sourcesOf, rowsIn};
+ghost use lib.Dec.{eqb};
+ghost use Rattle.reach.specs.Reached.{bit, sourcesOf, rowsIn};
 ghost use Rattle.lemma.specs.Pairs.{clashOf, settledBy, pairIn, foundOf, Searchable};
+
+// Does an origin stand in a row?
+fn stands_in(row: u64, origin: usize) -> bool
+    requires { ⌜ origin < maxArrays ⌝ }
+    ensures { λ r. ⌜ r ≡ eqb (bit row origin) 1 ⌝ }
+{
+    (row >> origin) % 2 == 1
+}
 
 // "their values differ, and the first reaches the origin of the second"
 fn clashes(one: u64, other: u64, row: u64, origin: usize) -> bool
@@ -19,7 +28,7 @@ fn clashes(one: u64, other: u64, row: u64, origin: usize) -> bool
     if one == other {
         return false;
     }
-    (row >> origin) % 2 == 1
+    stands_in(row, origin)
 }
 
 // Need a source not be tried: was that known, or has the one that is tried now, which does not conflict with it, its origin in its row?
@@ -30,7 +39,7 @@ fn settles(known: bool, row: u64, origin: usize) -> bool
     if known {
         return true;
     }
-    (row >> origin) % 2 == 1
+    stands_in(row, origin)
 }
 
 // The first source to try: the next one of the index value, or none where it is known that none conflicts.

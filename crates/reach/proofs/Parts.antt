@@ -4,7 +4,7 @@ use Prim.Native.Nat.{ℕ, zero, suc, _+_, _*_, _/_, _<_}
 use native.Mathlib.Omega.{arith}
 use mathlib.Core.Path.{_≡_, refl, ap}
 use mathlib.Core.List.{List, [], _∷_}
-use lib.ListN.{length, getD, set, replicate}
+use lib.ListN.{length, getD, set}
 use Rattle.reach.specs.Reached.{rowsIn}
 
 -- the parts of the next row stand three numbers on
@@ -21,12 +21,6 @@ rows-length [] = refl
 rows-length (low ∷ []) = refl
 rows-length (low ∷ middle ∷ []) = refl
 rows-length (low ∷ middle ∷ high ∷ parts) = omega (arith, rows-length parts)
-
--- rows that were just made
-pub rows-none : (size : ℕ) → rowsIn (replicate (size * 3) 0) ≡ replicate size 0
-unfolding rowsIn
-rows-none zero = refl
-rows-none (suc size) = rw (first-part size) (ap (λ (rows : List ℕ). 0 ∷ rows) (rows-none size))
 
 -- a row is read from its parts
 pub row-read : (parts : List ℕ) (k : ℕ) → k < length (rowsIn parts)
