@@ -14,7 +14,7 @@ use Rattle.paper.specs.Edges.{Guard, Edge}
 use Rattle.paper.specs.Reach.{near, stepCost}
 use Rattle.paper.specs.Lemma.{pathFrom}
 use Rattle.terms.specs.Graph.{openOf, openIn, Each}
-use Rattle.reach.specs.Reached.{openTo, reachedIn, hopOf, HopCounts}
+use Rattle.reach.specs.Reached.{openTo, reachedIn, entryOf, Distances}
 use Rattle.reach.specs.Steps.{EndsBelow, Lent}
 use Rattle.reach.proofs.Words.{open-each}
 use Rattle.lemma.specs.Steps.{tableOf, waysAt, isThere, firstOf, edgeAt, opened, Ends, Asked, PathOf}
@@ -93,13 +93,13 @@ module _ (values truths rows : List ℕ) (count n : ℕ) (lent : Lent rows count
     reached-same = ap (λ (among : List Edge). isSome (getD (near stepCost among n goal n) from none)) (sym (opened-same x)) ∙ reached
 
     -- the path can be asked for
-    pub asked : (hops : List (List ℕ)) → goal < n → HopCounts (openTo values truths rows count) x n hops → Asked (tableOf values truths rows count) x n from goal hops
-    asked hops goal-in known =
+    pub asked : (distances : List (List ℕ)) → goal < n → Distances (openTo values truths rows count) x n distances → Asked (tableOf values truths rows count) x n from goal distances
+    asked distances goal-in known =
         record {
           ends = ends;
           from-in = from-in;
           goal-in = goal-in;
-          hops-are = λ a b a-in b-in. known a b a-in b-in ∙ ap (λ (among : List Edge). hopOf (getD (near stepCost among n b n) a none)) (opened-same x);
+          distances-are = λ a b a-in b-in. known a b a-in b-in ∙ ap (λ (among : List Edge). entryOf (getD (near stepCost among n b n) a none)) (opened-same x);
           reached = reached-same;
         }
 

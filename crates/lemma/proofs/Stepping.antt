@@ -1,28 +1,31 @@
--- A step of the path: the code's choice by hop counts is the paper's choice by distances.
+-- A step of the path: the code's choice by its table is the paper's choice by distances.
 -- Assumes nothing.
-use Prim.Native.Nat.{ℕ, zero, suc, _+_, _-_, _<_, _≤_}
-use native.Mathlib.Nat.{add-comm, sub-zero, not-suc-le-zero}
+use Prim.Native.Nat.{ℕ, zero, suc, _+_, _-_, _%_, _<_, _≤_}
+use native.Mathlib.Nat.{sub-zero, not-suc-le-zero}
 use native.Mathlib.Numerals.{add-one}
 use native.Mathlib.Omega.{arith}
 use mathlib.Core.Path.{_≡_, refl, sym, ap, _∙_, subst}
 use mathlib.Core.Bool.{Bool, true, false, cond, false≢true}
-use mathlib.Core.List.{List, [], _∷_, _++_, map, map-append, append-nil, nil≢cons, Memᴰ·of-map}
+use mathlib.Core.List.{List, [], _∷_, _++_, map, map-append, append-nil, nil≢cons, Memᴰ·map, Memᴰ·of-map}
 use mathlib.Core.Option.{Option, none, some, Option·getD}
-use borrow.Author.Tests.{eqb-true, ne-eqb}
+use borrow.Author.Tests.{eqb-true, eq-eqb}
 use lib.Dec.{eqb}
-use lib.ListN.{length, getD, set, take, length-set}
-use lib.Seq.{take-suc-set, append-snoc}
-use Rattle.paper.specs.Lists.{isSome, mapOption, bindOption, keep, find, range}
-use Rattle.paper.specs.Edges.{Guard, Edge}
-use Rattle.paper.specs.Reach.{Walk, stay, step, across, near, stepCost, costs}
+use lib.ListN.{length, getD, set, take, length-set, length-append, length-map}
+use lib.Seq.{take-suc-set, append-snoc, length-take-le}
+use Rattle.paper.specs.Lists.{_∈_, isSome, mapOption, bindOption, keep, find, range}
+use Rattle.paper.specs.Edges.{Edge}
+use Rattle.paper.specs.Reach.{Joins, Walk, stay, step, across, over, near, stepCost, costs}
 use Rattle.paper.specs.Lemma.{sameDistance, leadsNearer, pathFrom}
-use Rattle.meaning.proofs.Lists.{find-in, find-same, keep-in, range-in}
-use Rattle.meaning.proofs.Walks.{Ranged}
-use Rattle.meaning.proofs.Distances.{entry-inside}
-use Rattle.meaning.proofs.Paths.{path-found}
-use Rattle.reach.specs.Reached.{hopOf, reachedIn}
-use Rattle.lemma.specs.Steps.{EdgeTable, edgeAt, openAt, opened, Ends, hopAt, otherEnd, farEnd, nearerBy, nearerEdge, HopsOf, Walkable, PathOf}
+use Rattle.meaning.proofs.Lists.{same-test, find-in, find-same, keep-in, keep-has, range-in}
+use Rattle.meaning.proofs.Walks.{joins-back, Ranged}
+use Rattle.meaning.proofs.Distances.{across-joins, joins-across, over-is, entry-inside, entry-least}
+use Rattle.meaning.proofs.Paths.{ends-near, sameDistance-is, entry-is-least, path-found}
+use Rattle.meaning.proofs.Fewest.{step-most}
+use Rattle.meaning.proofs.Conflicts.{step-positive}
+use Rattle.reach.specs.Reached.{reachedIn}
+use Rattle.lemma.specs.Steps.{EdgeTable, edgeAt, openAt, opened, Ends, distanceAt, otherEnd, farEnd, stepLess, nearerBy, nearerEdge, DistancesOf, Walkable, PathOf}
 use Rattle.lemma.proofs.Ranges.{stored-below}
+use Rattle.lemma.proofs.Ways.{stays-put}
 
 -- the other end is an array term
 pub far-end-in : (left right n a : ℕ) → left < n → right < n → a < n → farEnd left right a < n
@@ -70,19 +73,6 @@ both : (one other : Bool) → cond one other false ≡ true → (one ≡ true) �
 both true other passes = (refl, passes)
 both false other passes = absurd (false≢true passes)
 
--- every step costs 1
-step-one : (guard : Guard) → stepCost guard ≡ 1
-step-one (Guard.differ index) = refl
-step-one (Guard.isTrue m) = refl
-step-one (Guard.isFalse m) = refl
-
-step-positive : (guard : Guard) → 0 < stepCost guard
-step-positive guard = omega (arith, step-one guard)
-
-cost-length : (walked : List Edge) → costs stepCost walked ≡ length walked
-cost-length [] = refl
-cost-length (edge ∷ walked) = omega (arith, step-one (edge .guard), cost-length walked)
-
 -- a walk over no edge stays where it is
 no-step : {among walked : List Edge} {a c : ℕ} → Walk among a walked c → walked ≡ [] → a ≡ c
 no-step stay e = refl
@@ -96,20 +86,20 @@ module _ (e : EdgeTable) (x n goal : ℕ) where
   abbrev pub pathOf : (bound a : ℕ) → List Edge
   pathOf bound a = pathFrom stepCost bound (opened e x) table a
 
-  -- edge k is open and leads one step nearer, and the path goes on from its other end
-  record Onward (a d k : ℕ) : Type 0 where
+  -- edge k is open and leads nearer, and the path goes on from its other end
+  record Onward (a k : ℕ) : Type 0 where
     pub numbered : k < e .count
     pub open-to : openAt e x k ≡ true
     pub rest : ℕ
     pub known : getD table (otherEnd e x k a) none ≡ some rest
-    pub nearer : rest + 1 ≡ d
     pub goes-on : (bound : ℕ) → pathOf (suc bound) a ≡ edgeAt e x k ∷ pathOf bound (otherEnd e x k a)
 
   -- on the way from an array term: the numbers of the edges walked so far, with the path from here, are the whole path
   pub record Walking (from a steps : ℕ) (walked : List ℕ) : Type 0 where
     pub distance : ℕ
     pub known : getD table a none ≡ some distance
-    pub short : steps + distance < n
+    pub short : steps < n
+    pub brief : length (pathOf n from) < n
     pub done : map (edgeAt e x) (take steps walked) ++ pathOf (n - steps) a ≡ pathOf n from
     pub ways : Walkable e x walked steps
 
@@ -127,12 +117,6 @@ module _ (e : EdgeTable) (x n goal : ℕ) where
     no-steps : (walked : List ℕ) → length walked ≡ 48 → Walkable e x walked 0
     no-steps walked room = record { whole = room; numbered = λ k below. absurd (not-suc-le-zero below); open-to = λ k below. absurd (not-suc-le-zero below) }
 
-    -- a distance is less than the number of array terms
-    distance-less : (a d : ℕ) → getD table a none ≡ some d → d < n
-    distance-less a d known =
-        let found = path-found stepCost (opened e x) n goal opened-ranged step-positive known in
-        omega (arith, found .0 .total, found .1, cost-length (pathOf n a))
-
     -- where no edge leads nearer, the path ends
     no-way : (a : ℕ) → find (leadsNearer stepCost table a) (opened e x) ≡ none → (bound : ℕ) → pathOf bound a ≡ []
     no-way a nothing zero = refl
@@ -146,10 +130,10 @@ module _ (e : EdgeTable) (x n goal : ℕ) where
         go none nothing = no-way a nothing bound
         go (some edge) found =
             let path = path-found stepCost (opened e x) n goal opened-ranged step-positive known in
-            let shortest = path .0 .least [] (subst (λ (c : ℕ). Walk (opened e x) a [] c) here stay) in
+            let cheapest = path .0 .least [] (subst (λ (c : ℕ). Walk (opened e x) a [] c) here stay) in
             let some-left : n ≡ suc (n - 1) = omega (arith, path .1) in
-            let longer : length (pathOf n a) ≡ suc (length (pathOf (n - 1) (Option·getD (across a edge) a))) = ap (λ (m : ℕ). length (pathOf m a)) some-left ∙ rw found in
-            absurd (omega (arith, path .0 .total, cost-length (pathOf n a), shortest, longer))
+            let longer : costs stepCost (pathOf n a) ≡ stepCost (edge .guard) + costs stepCost (pathOf (n - 1) (Option·getD (across a edge) a)) = ap (λ (m : ℕ). costs stepCost (pathOf m a)) some-left ∙ rw found in
+            absurd (omega (arith, path .0 .total, cheapest, longer, step-positive (edge .guard)))
 
     pub walking-start : (from : ℕ) (walked : List ℕ) → length walked ≡ 48 → reachedIn (opened e) n x goal from ≡ true → Walking from from 0 walked
     unfolding reachedIn
@@ -161,7 +145,8 @@ module _ (e : EdgeTable) (x n goal : ℕ) where
             record {
               distance = d;
               known = known;
-              short = omega (arith, distance-less from d known);
+              short = omega (arith, entry-inside stepCost (opened e x) n goal n known);
+              brief = path-found stepCost (opened e x) n goal opened-ranged step-positive known .1;
               done = rw (sub-zero n);
               ways = no-steps walked room;
             }
@@ -176,87 +161,114 @@ module _ (e : EdgeTable) (x n goal : ℕ) where
           ways = way .ways;
         }
 
-    module _ (hops : List (List ℕ)) (hops-are : HopsOf e x n hops) (goal-in : goal < n) where
-      nearer-same : (a d k : ℕ) → k < e .count → a < n → getD table a none ≡ some d → d < 256
-          → eqb (hopAt hops (otherEnd e x k a) goal + 1) (hopAt hops a goal) ≡ leadsNearer stepCost table a (edgeAt e x k)
-      nearer-same a d k numbered inside known small = rw (hops-are a goal inside goal-in, known) (go (across a (edgeAt e x k)) refl)
+    module _ (distances : List (List ℕ)) (distances-are : DistancesOf e x n distances) (goal-in : goal < n) where
+      -- Two array terms that an edge joins differ in their distance by its cost at the most, so that the entries tell whether it is their difference
+      entries-tell : (cost d d′ : ℕ) → cost ≤ 49 → d ≤ cost + d′ → d′ ≤ cost + d → stepLess (d′ % 128) cost (d % 128) ≡ eqb (cost + d′) d
+      entries-tell cost d d′ small one other =
+          same-test (stepLess (d′ % 128) cost (d % 128)) (eqb (cost + d′) d)
+          (λ is. let same = eqb-true ((d′ % 128 + cost) % 128) (d % 128) is in eq-eqb (cost + d′) d (omega (arith, same)))
+          (λ is. let same = eqb-true (cost + d′) d is in eq-eqb ((d′ % 128 + cost) % 128) (d % 128) (omega (arith, same)))
+
+      nearer-same : (a d k : ℕ) → k ∈ range 0 (e .count) → openAt e x k ≡ true → a < n → getD table a none ≡ some d
+          → stepLess (distanceAt distances (otherEnd e x k a) goal) (stepCost (edgeAt e x k .guard)) (distanceAt distances a goal) ≡ leadsNearer stepCost table a (edgeAt e x k)
+      nearer-same a d k listed opens inside known = rw (distances-are a goal inside goal-in, known) (go (across a (edgeAt e x k)) refl)
         where
-          onward : (b : ℕ) → (there : Option ℕ) → getD table b none ≡ there
-              → eqb (hopOf there + 1) d ≡ sameDistance (mapOption (λ distance. stepCost (edgeAt e x k .guard) + distance) there) (some d)
-          onward b none there = ne-eqb (255 + 1) d (λ same. omega (arith, same, small))
-          onward b (some d′) there = rw (step-one (edgeAt e x k .guard)) (ap (λ (far : ℕ). eqb far d) (add-comm d′ 1))
+          edge : Edge
+          edge = edgeAt e x k
 
-          go : (end : Option ℕ) → across a (edgeAt e x k) ≡ end
-              → eqb (hopAt hops (Option·getD end a) goal + 1) d
-              ≡ sameDistance (bindOption end (λ to. mapOption (λ distance. stepCost (edgeAt e x k .guard) + distance) (getD table to none))) (some d)
-          go none joined = rw (hops-are a goal inside goal-in, known) (ne-eqb (d + 1) d (λ same. omega (arith, same)))
+          among : edge ∈ opened e x
+          among = Memᴰ·map (edgeAt e x) (keep-has (openAt e x) (range 0 (e .count)) listed opens)
+
+          onward : (b : ℕ) → b < n → Joins edge a b
+              → stepLess (distanceAt distances b goal) (stepCost (edge .guard)) (d % 128) ≡ sameDistance (mapOption (λ distance. stepCost (edge .guard) + distance) (getD table b none)) (some d)
+          onward b within joined =
+              let here = entry-is-least stepCost (opened e x) n goal opened-ranged known in
+              let back = entry-least stepCost (opened e x) n goal opened-ranged within (step among (joins-back edge joined) (here .way)) in
+              let there = entry-is-least stepCost (opened e x) n goal opened-ranged (back .1) in
+              let near = ends-near stepCost (opened e x) goal edge among joined here there in
+              rw (distances-are b goal within goal-in, back .1) (entries-tell (stepCost (edge .guard)) d (back .0) (step-most (edge .guard)) (near .0) (near .1))
+
+          go : (end : Option ℕ) → across a edge ≡ end
+              → stepLess (distanceAt distances (Option·getD end a) goal) (stepCost (edge .guard)) (d % 128)
+              ≡ sameDistance (bindOption end (λ to. mapOption (λ distance. stepCost (edge .guard) + distance) (getD table to none))) (some d)
+          go none joined = rw (distances-are a goal inside goal-in, known) (stays-put (d % 128) (edge .guard))
           go (some b) joined =
-              let within : b < n = subst (λ (end : Option ℕ). Option·getD end a < n) joined (other-end-in e x n a k ends inside numbered) in
-              rw (hops-are b goal within goal-in) (onward b (getD table b none) refl)
+              let within : b < n = subst (λ (end : Option ℕ). Option·getD end a < n) joined (other-end-in e x n a k ends inside (omega (arith, range-in 0 (e .count) listed .1))) in
+              onward b within (across-joins edge joined)
 
-      module _ (a d : ℕ) (known : getD table a none ≡ some d) (small : d < 256) where
+      module _ (a d : ℕ) (known : getD table a none ≡ some d) where
         inside : a < n
         inside = entry-inside stepCost (opened e x) n goal n known
 
         -- the code's choice is the paper's
-        chosen-same : find (leadsNearer stepCost table a) (opened e x) ≡ mapOption (edgeAt e x) (find (nearerBy e hops x a goal) (range 0 (e .count)))
+        chosen-same : find (leadsNearer stepCost table a) (opened e x) ≡ mapOption (edgeAt e x) (find (nearerBy e distances x a goal) (range 0 (e .count)))
         chosen-same =
             find-kept (edgeAt e x) (openAt e x) (leadsNearer stepCost table a) (range 0 (e .count))
-            ∙ ap (mapOption (edgeAt e x))
-            (find-same (range 0 (e .count))
-            (λ k here. ap (λ (b : Bool). cond (openAt e x k) b false) (sym (nearer-same a d k (omega (arith, range-in 0 (e .count) here .1)) inside known small))))
+            ∙ ap (mapOption (edgeAt e x)) (find-same (range 0 (e .count)) (λ k here. either k here (openAt e x k) refl))
+          where
+            either : (k : ℕ) → k ∈ range 0 (e .count) → (opens : Bool) → openAt e x k ≡ opens
+                → cond opens (leadsNearer stepCost table a (edgeAt e x k)) false
+                ≡ cond opens (stepLess (distanceAt distances (otherEnd e x k a) goal) (stepCost (edgeAt e x k .guard)) (distanceAt distances a goal)) false
+            either k here true is = sym (nearer-same a d k here is inside known)
+            either k here false is = refl
 
-        taken : (k : ℕ) → find (nearerBy e hops x a goal) (range 0 (e .count)) ≡ some k → Onward a d k
+        taken : (k : ℕ) → find (nearerBy e distances x a goal) (range 0 (e .count)) ≡ some k → Onward a k
         taken k found =
-            let chosen = find-in (nearerBy e hops x a goal) (range 0 (e .count)) found in
-            let numbered : k < e .count = omega (arith, range-in 0 (e .count) (chosen .0) .1) in
-            let passes = both (openAt e x k) (eqb (hopAt hops (otherEnd e x k a) goal + 1) (hopAt hops a goal)) (chosen .1) in
-            let further = other-end-in e x n a k ends inside numbered in
-            let nearer = eqb-true (hopAt hops (otherEnd e x k a) goal + 1) (hopAt hops a goal) (passes .1) in
-            let sums : hopOf (getD table (otherEnd e x k a) none) + 1 ≡ d = rw (← hops-are (otherEnd e x k a) goal further goal-in) (nearer ∙ hops-are a goal inside goal-in ∙ ap hopOf known) in
-            let rest = at-distance (getD table (otherEnd e x k a) none) refl sums in
+            let chosen = find-in (nearerBy e distances x a goal) (range 0 (e .count)) found in
+            let passes = both (openAt e x k) (stepLess (distanceAt distances (otherEnd e x k a) goal) (stepCost (edgeAt e x k .guard)) (distanceAt distances a goal)) (chosen .1) in
+            let leads = sym (nearer-same a d k (chosen .0) (passes .0) inside known) ∙ passes .1 in
+            let same = sameDistance-is (over stepCost table a (edgeAt e x k)) (getD table a none) leads in
+            let (b, rest, joined, there, sums) = over-is stepCost table (edgeAt e x k) (same .1) in
             record {
-              numbered = numbered;
+              numbered = omega (arith, range-in 0 (e .count) (chosen .0) .1);
               open-to = passes .0;
-              rest = rest .0;
-              known = rest .1;
-              nearer = rest .2;
+              rest = rest;
+              known = subst (λ (end : Option ℕ). getD table (Option·getD end a) none ≡ some rest) (sym (joins-across (edgeAt e x k) joined)) there;
               goes-on = λ bound. rw (chosen-same, found);
             }
-          where
-            at-distance : (there : Option ℕ) → getD table (otherEnd e x k a) none ≡ there → hopOf there + 1 ≡ d
-                → (rest : ℕ) × (getD table (otherEnd e x k a) none ≡ some rest) × (rest + 1 ≡ d)
-            at-distance none there sums = absurd (omega (arith, sums, small))
-            at-distance (some rest) there sums = (rest, there, sums)
 
         -- away from the goal some edge leads nearer
-        onward : (a ≡ goal → ⊥) → Onward a d (nearerEdge e hops x a goal)
+        onward : (a ≡ goal → ⊥) → Onward a (nearerEdge e distances x a goal)
         unfolding nearerEdge
-        onward away = go (find (nearerBy e hops x a goal) (range 0 (e .count))) refl
+        onward away = go (find (nearerBy e distances x a goal) (range 0 (e .count))) refl
           where
-            go : (choice : Option ℕ) → find (nearerBy e hops x a goal) (range 0 (e .count)) ≡ choice → Onward a d (Option·getD choice (e .count))
+            go : (choice : Option ℕ) → find (nearerBy e distances x a goal) (range 0 (e .count)) ≡ choice → Onward a (Option·getD choice (e .count))
             go none nothing =
                 let found = path-found stepCost (opened e x) n goal opened-ranged step-positive known in
                 absurd (away (no-step (found .0 .way) (no-way a (chosen-same ∙ ap (mapOption (edgeAt e x)) nothing) n)))
             go (some k) found = taken k found
 
+      -- what is walked is no longer than the path
+      one-less : (steps : ℕ) (walked : List ℕ) (after : List Edge) → steps ≤ length walked → {path : List Edge} → map (edgeAt e x) (take steps walked) ++ after ≡ path → length path < n → steps < n
+      one-less steps walked after fits done brief =
+          omega (
+            arith,
+            ap length done,
+            length-append (map (edgeAt e x) (take steps walked)) after,
+            length-map (take steps walked) (edgeAt e x),
+            length-take-le steps walked fits,
+          )
+
       -- one step further
       pub walking-on : (from a steps : ℕ) (walked : List ℕ) → n ≤ 48 → (a ≡ goal → ⊥) → Walking from a steps walked
-          → Walking from (otherEnd e x (nearerEdge e hops x a goal) a) (steps + 1) (set walked steps (nearerEdge e hops x a goal))
+          → Walking from (otherEnd e x (nearerEdge e distances x a goal) a) (steps + 1) (set walked steps (nearerEdge e distances x a goal))
       walking-on from a steps walked few away way =
-          let k = nearerEdge e hops x a goal in
-          let next = onward a (way .distance) (way .known) (omega (arith, way .short)) away in
+          let k = nearerEdge e distances x a goal in
+          let next = onward a (way .distance) (way .known) away in
           let more : n - steps ≡ suc (n - (steps + 1)) = omega (arith, way .short) in
           let fits : steps < length walked = omega (arith, way .short, way .ways .whole) in
           let before = map (edgeAt e x) (take steps walked) in
           let after = pathOf (n - (steps + 1)) (otherEnd e x k a) in
           let one-more : take (steps + 1) (set walked steps k) ≡ take steps walked ++ (k ∷ []) = rw (add-one steps) (take-suc-set walked steps k fits) in
           let longer : map (edgeAt e x) (take (steps + 1) (set walked steps k)) ++ after ≡ before ++ (edgeAt e x k ∷ after) = rw (one-more, map-append (edgeAt e x)) (append-snoc before (edgeAt e x k) after) in
+          let done : map (edgeAt e x) (take (steps + 1) (set walked steps k)) ++ after ≡ pathOf n from =
+          longer ∙ ap (λ (rest : List Edge). before ++ rest) (sym (next .goes-on (n - (steps + 1))) ∙ ap (λ (m : ℕ). pathOf m a) (sym more)) ∙ way .done in
           record {
             distance = next .rest;
             known = next .known;
-            short = omega (arith, way .short, next .nearer);
-            done = longer ∙ ap (λ (rest : List Edge). before ++ rest) (sym (next .goes-on (n - (steps + 1))) ∙ ap (λ (m : ℕ). pathOf m a) (sym more)) ∙ way .done;
+            short = one-less (steps + 1) (set walked steps k) after (omega (arith, length-set walked steps k, fits)) done (way .brief);
+            brief = way .brief;
+            done = done;
             ways =
                 record {
                   whole = length-set walked steps k ∙ way .ways .whole;
@@ -266,9 +278,9 @@ module _ (e : EdgeTable) (x n goal : ℕ) where
           }
 
       -- the edge that is taken stands in the table
-      pub chosen-in : (from a steps : ℕ) (walked : List ℕ) → n ≤ 48 → (a ≡ goal → ⊥) → Walking from a steps walked → nearerEdge e hops x a goal < e .count
-      chosen-in from a steps walked few away way = onward a (way .distance) (way .known) (omega (arith, way .short)) away .numbered
+      pub chosen-in : (from a steps : ℕ) (walked : List ℕ) → n ≤ 48 → (a ≡ goal → ⊥) → Walking from a steps walked → nearerEdge e distances x a goal < e .count
+      chosen-in from a steps walked few away way = onward a (way .distance) (way .known) away .numbered
 
       -- and is open
-      pub chosen-open : (from a steps : ℕ) (walked : List ℕ) → n ≤ 48 → (a ≡ goal → ⊥) → Walking from a steps walked → openAt e x (nearerEdge e hops x a goal) ≡ true
-      chosen-open from a steps walked few away way = onward a (way .distance) (way .known) (omega (arith, way .short)) away .open-to
+      pub chosen-open : (from a steps : ℕ) (walked : List ℕ) → n ≤ 48 → (a ≡ goal → ⊥) → Walking from a steps walked → openAt e x (nearerEdge e distances x a goal) ≡ true
+      chosen-open from a steps walked few away way = onward a (way .distance) (way .known) away .open-to

@@ -9,9 +9,12 @@ use borrow.Author.Tests.{ne-eqb}
 use lib.Dec.{eqb}
 use lib.ListN.{getD}
 use Rattle.paper.specs.Edges.{Guard, Edge}
+use Rattle.paper.specs.Reach.{stepCost}
+use Rattle.meaning.proofs.Fewest.{step-most}
+use Rattle.meaning.proofs.Conflicts.{step-positive}
 use Rattle.terms.specs.declared.graph.Way.{Way}
 use Rattle.terms.specs.Graph.{openOf, openIn, guardOf, wayEdges}
-use Rattle.lemma.specs.Steps.{EdgeTable, waysAt, isThere, firstOf, edgeAt, openAt, hopAt, otherEnd, farEnd, nearerOver, nearerIn, touchesIn, nearerBy}
+use Rattle.lemma.specs.Steps.{EdgeTable, waysAt, isThere, firstOf, edgeAt, openAt, distanceAt, otherEnd, farEnd, tagCost, stepLess, nearerOver, nearerIn, touchesIn, nearerBy}
 
 -- the number that a guard names
 abbrev guardNumber : Guard → ℕ
@@ -43,26 +46,39 @@ row-number : (values truths : List ℕ) (x row : ℕ) → guardNumber (firstOf (
 unfolding openIn
 row-number values truths x row = open-number values truths x (row % 64) (row / 64 % 64) (row / 4096 % 64) (row / 262144 % 256) (row / 67108864) (omega arith)
 
--- a row that cannot join an array term does not lead nearer from it
-module _ (hops : List (List ℕ)) (a goal : ℕ) where
-  not-there : (left right : ℕ) → eqb left a ≡ false → eqb right a ≡ false → nearerOver true left right hops a goal ≡ false
-  not-there left right off-left off-right = rw (off-left, off-right) (ne-eqb (hopAt hops a goal + 1) (hopAt hops a goal) (λ same. omega (arith, same)))
+-- a step changes the distance
+pub stays-put : (away : ℕ) (guard : Guard) → stepLess away (stepCost guard) away ≡ false
+stays-put away guard = ne-eqb ((away + stepCost guard) % 128) away (λ same. omega (arith, same, step-positive guard, step-most guard))
 
-  off-either : (b : Bool) (one other : List Edge) → nearerIn one hops a goal ≡ false → nearerIn other hops a goal ≡ false → nearerIn (cond b one other) hops a goal ≡ false
+-- what a step costs, by the tag
+tag-cost : (tag number : ℕ) → tagCost tag ≡ stepCost (guardOf tag number)
+tag-cost tag number = go (eqb tag 0x22) (eqb tag 0x23)
+  where
+    go : (differs holds : Bool) → cond differs 49 1 ≡ stepCost (cond differs (Guard.differ number) (cond holds (Guard.isTrue number) (Guard.isFalse number)))
+    go true holds = refl
+    go false true = refl
+    go false false = refl
+
+-- a row that cannot join an array term does not lead nearer from it
+module _ (distances : List (List ℕ)) (a goal : ℕ) where
+  not-there : (left right : ℕ) (guard : Guard) → eqb left a ≡ false → eqb right a ≡ false → nearerOver true left right (stepCost guard) distances a goal ≡ false
+  not-there left right guard off-left off-right = rw (off-left, off-right) (stays-put (distanceAt distances a goal) guard)
+
+  off-either : (b : Bool) (one other : List Edge) → nearerIn one distances a goal ≡ false → nearerIn other distances a goal ≡ false → nearerIn (cond b one other) distances a goal ≡ false
   off-either true one other first second = first
   off-either false one other first second = second
 
   open-off : (values truths : List ℕ) (x left right other number guard : ℕ) → eqb left a ≡ false → eqb right a ≡ false → eqb other a ≡ false
-      → nearerIn (openOf values truths x left right other number guard) hops a goal ≡ false
+      → nearerIn (openOf values truths x left right other number guard) distances a goal ≡ false
   open-off values truths x left right other number zero off-left off-right off-other =
-      off-either (eqb (getD values number 0) x) [] (record { left = left; right = right; guard = Guard.differ number } ∷ []) refl (not-there left right off-left off-right)
+      off-either (eqb (getD values number 0) x) [] (record { left = left; right = right; guard = Guard.differ number } ∷ []) refl (not-there left right (Guard.differ number) off-left off-right)
   open-off values truths x left right other number (suc zero) off-left off-right off-other =
       off-either (eqb 1 (getD truths (number % 64) 0)) (record { left = left; right = right; guard = Guard.isTrue number } ∷ []) (record { left = left; right = other; guard = Guard.isFalse number } ∷ [])
-      (not-there left right off-left off-right) (not-there left other off-left off-other)
+      (not-there left right (Guard.isTrue number) off-left off-right) (not-there left other (Guard.isFalse number) off-left off-other)
   open-off values truths x left right other number (suc (suc guard)) off-left off-right off-other =
-      off-either (eqb 1 (getD truths (number % 64) 0)) (record { left = left; right = right; guard = Guard.isTrue number } ∷ []) [] (not-there left right off-left off-right) refl
+      off-either (eqb 1 (getD truths (number % 64) 0)) (record { left = left; right = right; guard = Guard.isTrue number } ∷ []) [] (not-there left right (Guard.isTrue number) off-left off-right) refl
 
-  pub row-off : (values truths : List ℕ) (x row : ℕ) → touchesIn row a ≡ false → nearerIn (openIn values truths x row) hops a goal ≡ false
+  pub row-off : (values truths : List ℕ) (x row : ℕ) → touchesIn row a ≡ false → nearerIn (openIn values truths x row) distances a goal ≡ false
   unfolding openIn
   row-off values truths x row off =
       let (off-left, off-right, off-other) = none-is (eqb (row % 64) a) (eqb (row / 64 % 64) a) (eqb (row / 4096 % 64) a) off in
@@ -75,14 +91,14 @@ module _ (hops : List (List ℕ)) (a goal : ℕ) where
 
 -- what the code finds of a row is what the row says
 module _ (e : EdgeTable) (x k : ℕ) (way : Way) (is : wayEdges way ≡ waysAt e x k) where
-  pub way-nearer : (hops : List (List ℕ)) (a goal : ℕ) → nearerOver (way .open) (way .left) (way .right) hops a goal ≡ nearerBy e hops x a goal k
-  way-nearer hops a goal = go (way .open) ∙ ap test is
+  pub way-nearer : (distances : List (List ℕ)) (a goal : ℕ) → nearerOver (way .open) (way .left) (way .right) (tagCost (way .tag)) distances a goal ≡ nearerBy e distances x a goal k
+  way-nearer distances a goal =
+      ap (λ (cost : ℕ). nearerOver (way .open) (way .left) (way .right) cost distances a goal) (tag-cost (way .tag) (way .number))
+      ∙ go (way .open)
+      ∙ ap (λ (edges : List Edge). nearerIn edges distances a goal) is
     where
-      test : List Edge → Bool
-      test edges = cond (isThere edges) (eqb (hopAt hops (farEnd (firstOf edges .left) (firstOf edges .right) a) goal + 1) (hopAt hops a goal)) false
-
-      go : (opens : Bool) → nearerOver opens (way .left) (way .right) hops a goal
-          ≡ test (cond opens (record { left = way .left; right = way .right; guard = guardOf (way .tag) (way .number) } ∷ []) [])
+      go : (opens : Bool) → nearerOver opens (way .left) (way .right) (stepCost (guardOf (way .tag) (way .number))) distances a goal
+          ≡ nearerIn (cond opens (record { left = way .left; right = way .right; guard = guardOf (way .tag) (way .number) } ∷ []) []) distances a goal
       go true = refl
       go false = refl
 

@@ -34,7 +34,7 @@ pub record Ready (values truths edges : List ℕ) (ways arrays one other : ℕ) 
   pub reached : reachedIn (openTo values truths edges ways) arrays (indexValueOf values one) (other % 256) (one % 256) ≡ true
   pub room : length literals ≡ maxLiterals
 
--- "The path is a shortest walk from s's origin to t's origin", over the edges open to index value x
+-- "The path shall have the fewest write edges, and among those the fewest edges", over the edges open to index value x
 abbrev pub pathOver : (values truths edges : List ℕ) (ways arrays x from goal : ℕ) → List Edge
 pathOver values truths edges ways arrays x from goal =
     let among = openTo values truths edges ways x in

@@ -13,7 +13,7 @@ use Rattle.paper.specs.Edges.{Guard, Edge}
 use Rattle.paper.specs.Reach.{across, near, stepCost}
 use Rattle.paper.specs.Lemma.{pathFrom}
 use Rattle.terms.specs.Graph.{openIn}
-use Rattle.reach.specs.Reached.{hopOf, reachedIn}
+use Rattle.reach.specs.Reached.{entryOf, reachedIn}
 
 -- the rows of edges that are lent, with the guess that opens them
 pub record EdgeTable : Type 0 where
@@ -53,9 +53,9 @@ pub record Ends (e : EdgeTable) (x n : ℕ) : Type 0 where
   pub left : (k : ℕ) → k < e .count → edgeAt e x k .left < n
   pub right : (k : ℕ) → k < e .count → edgeAt e x k .right < n
 
--- the hop count from a to b
-abbrev pub hopAt : (hops : List (List ℕ)) → (a b : ℕ) → ℕ
-hopAt hops a b = getD (getD hops a []) b 0
+-- the distance from a to b, as the table holds it
+abbrev pub distanceAt : (distances : List (List ℕ)) → (a b : ℕ) → ℕ
+distanceAt distances a b = getD (getD distances a []) b 0
 
 -- the other end of edge k, and a itself where the edge does not join it
 abbrev pub otherEnd : EdgeTable → (x k a : ℕ) → ℕ
@@ -65,13 +65,21 @@ otherEnd e x k a = Option·getD (across a (edgeAt e x k)) a
 abbrev pub farEnd : (left right a : ℕ) → ℕ
 farEnd left right a = Option·getD (across a (record { left = left; right = right; guard = Guard.differ 0 })) a
 
--- is a way open, and is its other end one step nearer to the goal than a?
-abbrev pub nearerOver : (opens : Bool) → (left right : ℕ) → (hops : List (List ℕ)) → (a goal : ℕ) → Bool
-nearerOver opens left right hops a goal = cond opens (eqb (hopAt hops (farEnd left right a) goal + 1) (hopAt hops a goal)) false
+-- what a step costs, by the tag of its edge's literal
+abbrev pub tagCost : (tag : ℕ) → ℕ
+tagCost tag = cond (eqb tag 0x22) 49 1
+
+-- is the one distance what is left of the other after a step of that cost?
+abbrev pub stepLess : (onward cost away : ℕ) → Bool
+stepLess onward cost away = eqb ((onward + cost) % 128) away
+
+-- is a way open, and is its other end nearer to the goal than a by what the step costs?
+abbrev pub nearerOver : (opens : Bool) → (left right cost : ℕ) → (distances : List (List ℕ)) → (a goal : ℕ) → Bool
+nearerOver opens left right cost distances a goal = cond opens (stepLess (distanceAt distances (farEnd left right a) goal) cost (distanceAt distances a goal)) false
 
 -- the same of the edges of a row, of which one is open or none; and the ends of that one are array terms
-abbrev pub nearerIn : List Edge → (hops : List (List ℕ)) → (a goal : ℕ) → Bool
-nearerIn edges hops a goal = nearerOver (isThere edges) (firstOf edges .left) (firstOf edges .right) hops a goal
+abbrev pub nearerIn : List Edge → (distances : List (List ℕ)) → (a goal : ℕ) → Bool
+nearerIn edges distances a goal = nearerOver (isThere edges) (firstOf edges .left) (firstOf edges .right) (stepCost (firstOf edges .guard)) distances a goal
 
 abbrev pub RowWithin : List Edge → Type 0
 RowWithin edges = (firstOf edges .left < maxArrays) × (firstOf edges .right < maxArrays)
@@ -80,25 +88,26 @@ RowWithin edges = (firstOf edges .left < maxArrays) × (firstOf edges .right < m
 abbrev pub touchesIn : (row a : ℕ) → Bool
 touchesIn row a = cond (eqb (row % 64) a) true (cond (eqb (row / 64 % 64) a) true (eqb (row / 4096 % 64) a))
 
--- is edge k open to x, and is its other end one step nearer to the goal than a?
-abbrev pub nearerBy : EdgeTable → (hops : List (List ℕ)) → (x a goal k : ℕ) → Bool
-nearerBy e hops x a goal k = cond (openAt e x k) (eqb (hopAt hops (otherEnd e x k a) goal + 1) (hopAt hops a goal)) false
+-- is edge k open to x, and is its other end nearer to the goal than a by what the step costs?
+abbrev pub nearerBy : EdgeTable → (distances : List (List ℕ)) → (x a goal k : ℕ) → Bool
+nearerBy e distances x a goal k =
+    cond (openAt e x k) (stepLess (distanceAt distances (otherEnd e x k a) goal) (stepCost (edgeAt e x k .guard)) (distanceAt distances a goal)) false
 
--- "the lowest-numbered open edge that leads one step nearer", or the number of edges where there is none
-unfoldable pub nearerEdge : EdgeTable → (hops : List (List ℕ)) → (x a goal : ℕ) → ℕ
-nearerEdge e hops x a goal = Option·getD (find (nearerBy e hops x a goal) (range 0 (e .count))) (e .count)
+-- "the lowest-numbered open edge that lies on such a path", or the number of edges where there is none
+unfoldable pub nearerEdge : EdgeTable → (distances : List (List ℕ)) → (x a goal : ℕ) → ℕ
+nearerEdge e distances x a goal = Option·getD (find (nearerBy e distances x a goal) (range 0 (e .count))) (e .count)
 
--- the hop counts are the distances over the edges open to x
-abbrev pub HopsOf : EdgeTable → (x n : ℕ) → (hops : List (List ℕ)) → Type 0
-HopsOf e x n hops =
-    (a b : ℕ) → a < n → b < n → hopAt hops a b ≡ hopOf (getD (near stepCost (opened e x) n b n) a none)
+-- the table holds the distances over the edges open to x
+abbrev pub DistancesOf : EdgeTable → (x n : ℕ) → (distances : List (List ℕ)) → Type 0
+DistancesOf e x n distances =
+    (a b : ℕ) → a < n → b < n → distanceAt distances a b ≡ entryOf (getD (near stepCost (opened e x) n b n) a none)
 
--- what the path is asked of: tables within their bounds, their hop counts, and a goal that is reached
-pub record Asked (e : EdgeTable) (x n from goal : ℕ) (hops : List (List ℕ)) : Type 0 where
+-- what the path is asked of: tables within their bounds, their distances, and a goal that is reached
+pub record Asked (e : EdgeTable) (x n from goal : ℕ) (distances : List (List ℕ)) : Type 0 where
   pub ends : Ends e x n
   pub from-in : from < n
   pub goal-in : goal < n
-  pub hops-are : HopsOf e x n hops
+  pub distances-are : DistancesOf e x n distances
   pub reached : reachedIn (opened e) n x goal from ≡ true
 
 -- the edges that a path walks, in order: its first cells hold their numbers
@@ -111,8 +120,8 @@ pub record Walkable (e : EdgeTable) (x : ℕ) (path : List ℕ) (steps : ℕ) : 
   pub numbered : (k : ℕ) → k < steps → getD path k 0 < e .count
   pub open-to : (k : ℕ) → k < steps → openAt e x (getD path k 0) ≡ true
 
--- "The path is a shortest walk from s's origin to t's origin; at each step take the lowest-numbered open edge that leads one step
--- nearer": over the edges of the table that are open, and fewer than there are array terms
+-- "The path shall have the fewest write edges, and among those the fewest edges; at each step the lowest-numbered open edge that lies on
+-- such a path": over the edges of the table that are open, and fewer than there are array terms
 pub record PathOf (e : EdgeTable) (x n from goal : ℕ) (path : List ℕ) (steps : ℕ) : Type 0 where
   pub walked : walkedBy e x path steps ≡ pathFrom stepCost n (opened e x) (near stepCost (opened e x) n goal n) from
   pub short : steps < n

@@ -1,6 +1,6 @@
 // The literals between two sources (01, The lemma): the path from the one to the other, and what it says.
 use crate::literal::literals_of;
-use crate::paths::shortest_path;
+use crate::paths::least_path;
 use paper::MAX_ARRAYS;
 use paper::MAX_BASES;
 use paper::MAX_BOOLEANS;
@@ -11,7 +11,7 @@ use terms::graph::origin_of;
 ghost use Rattle.lemma.specs.Steps.{tableOf, PathOf};
 ghost use Rattle.lemma.specs.Between.{Reachable, Ready, LemmaBetween};
 
-// The path from an array term to one that it reaches. There is none to look for where they are one, and so no hop counts are made.
+// The path from an array term to one that it reaches. There is none to look for where they are one, and so no distances are made.
 fn path_between<'a>(
     values: &'a [u64; MAX_BASES],
     truths: &'a [u8; MAX_BOOLEANS],
@@ -29,13 +29,13 @@ fn path_between<'a>(
     if from == goal {
         return 0;
     }
-    let hops = reach::hops(values, truths, edges, ways, x, arrays);
-    shortest_path(
+    let distances = reach::distances(values, truths, edges, ways, x, arrays);
+    least_path(
         values,
         truths,
         edges,
         ways,
-        &hops,
+        &distances,
         x,
         arrays,
         from,

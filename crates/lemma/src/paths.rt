@@ -1,20 +1,22 @@
-// The path (01, The lemma): a shortest walk, found by comparing hop counts.
+// The path (02, E6): of the fewest writes, and among those of the fewest edges, found by comparing distances.
+use paper::DIFFER;
 use paper::MAX_ARRAYS;
 use paper::MAX_BASES;
 use paper::MAX_BOOLEANS;
 use paper::MAX_EDGES;
+use reach::ENTRIES;
+use reach::WRITE_COST;
 use terms::graph::left_of;
 use terms::graph::open_way;
 use terms::graph::other_of;
 use terms::graph::right_of;
 ghost use mathlib.Core.Path.{_≡_};
 ghost use mathlib.Core.Bool.{true};
-ghost use Prim.Native.Nat.{_+_, _<_};
-ghost use lib.Dec.{eqb};
+ghost use Prim.Native.Nat.{_<_};
 ghost use lib.ListN.{length};
 ghost use Rattle.paper.specs.Sizes.{maxArrays};
 ghost use Rattle.terms.specs.Graph.{openIn};
-ghost use Rattle.lemma.specs.Steps.{tableOf, Ends, farEnd, nearerOver, nearerEdge, Asked, PathOf, RowWithin, touchesIn, nearerIn};
+ghost use Rattle.lemma.specs.Steps.{tableOf, Ends, farEnd, tagCost, stepLess, nearerOver, nearerEdge, Asked, PathOf, RowWithin, touchesIn, nearerIn};
 
 // "An edge can be walked both ways": the other end of an edge, or a itself where the edge does not join it.
 fn other_end(one: usize, other: usize, a: usize) -> usize
@@ -29,29 +31,38 @@ fn other_end(one: usize, other: usize, a: usize) -> usize
     }
 }
 
-// Is the one hop count one less than the other?
-fn one_less(onward: u8, away: u8) -> bool
-    ensures { λ r. ⌜ r ≡ eqb (onward + 1) away ⌝ }
+// What a step costs, by the tag of its edge's literal.
+fn step_cost(tag: u8) -> u16
+    ensures { λ r. ⌜ r ≡ tagCost tag ⌝ }
 {
-    let through = onward as usize + 1;
-    through == away as usize
+    if tag == DIFFER { WRITE_COST } else { 1 }
 }
 
-// Is a way open, and does it lead one step nearer?
+// Is the one distance what is left of the other after a step of that cost?
+fn step_less(onward: u8, cost: u16, away: u8) -> bool
+    ensures { λ r. ⌜ r ≡ stepLess onward cost away ⌝ }
+{
+    let through = onward as usize + cost as usize;
+    let entry = through % ENTRIES as usize;
+    entry == away as usize
+}
+
+// Is a way open, and does it lie on a path of least cost?
 fn leads_nearer(
     opens: bool,
     left: usize,
     right: usize,
-    hops: &[[u8; MAX_ARRAYS]; MAX_ARRAYS],
+    cost: u16,
+    distances: &[[u8; MAX_ARRAYS]; MAX_ARRAYS],
     a: usize,
     goal: usize,
 ) -> bool
     requires { ⌜ (opens ≡ true → (left < maxArrays) × (right < maxArrays)) × (a < maxArrays) × (goal < maxArrays) ⌝ }
-    ensures { λ r. ⌜ r ≡ nearerOver opens left right (now (hops .entry)) a goal ⌝ }
+    ensures { λ r. ⌜ r ≡ nearerOver opens left right cost (now (distances .entry)) a goal ⌝ }
 {
     if opens {
         let b = other_end(left, right, a);
-        one_less(hops[b][goal], hops[a][goal])
+        step_less(distances[b][goal], cost, distances[a][goal])
     } else {
         false
     }
@@ -73,47 +84,49 @@ fn touches(row: u32, a: usize) -> bool
     other == a
 }
 
-// Is a row open, and does it lead one step nearer?
+// Is a row open, and does it lie on a path of least cost?
 fn row_leads<'a>(
     values: &'a [u64; MAX_BASES],
     truths: &'a [u8; MAX_BOOLEANS],
     x: u64,
     row: u32,
-    hops: &'a [[u8; MAX_ARRAYS]; MAX_ARRAYS],
+    distances: &'a [[u8; MAX_ARRAYS]; MAX_ARRAYS],
     a: usize,
     goal: usize,
 ) -> bool
     requires { ⌜ RowWithin (openIn (now values) (now truths) x row) × (a < maxArrays) × (goal < maxArrays) ⌝ }
-    ensures { λ r. ⌜ r ≡ nearerIn (openIn (now (values .entry)) (now (truths .entry)) x row) (now (hops .entry)) a goal ⌝ }
+    ensures { λ r. ⌜ r ≡ nearerIn (openIn (now (values .entry)) (now (truths .entry)) x row) (now (distances .entry)) a goal ⌝ }
 {
     if touches(row, a) {
         let way = open_way(values, truths, x, row);
         let opens = way.open;
         let left = way.left;
         let right = way.right;
-        return leads_nearer(opens, left, right, hops, a, goal);
+        let tag = way.tag;
+        let cost = step_cost(tag);
+        return leads_nearer(opens, left, right, cost, distances, a, goal);
     }
     false
 }
 
-// "the lowest-numbered open edge that leads one step nearer", or the number of edges where there is none
+// "the lowest-numbered open edge that lies on such a path", or the number of edges where there is none
 fn nearer_edge<'a>(
     values: &'a [u64; MAX_BASES],
     truths: &'a [u8; MAX_BOOLEANS],
     edges: &'a [u32; MAX_EDGES],
     count: usize,
-    hops: &'a [[u8; MAX_ARRAYS]; MAX_ARRAYS],
+    distances: &'a [[u8; MAX_ARRAYS]; MAX_ARRAYS],
     x: u64,
     a: usize,
     goal: usize,
 ) -> usize
     requires { ⌜ Ends (tableOf (now values) (now truths) (now edges) count) x maxArrays × (a < maxArrays) × (goal < maxArrays) ⌝ }
-    ensures { λ r. ⌜ r ≡ nearerEdge (tableOf (now (values .entry)) (now (truths .entry)) (now (edges .entry)) count) (now (hops .entry)) x a goal ⌝ }
+    ensures { λ r. ⌜ r ≡ nearerEdge (tableOf (now (values .entry)) (now (truths .entry)) (now (edges .entry)) count) (now (distances .entry)) x a goal ⌝ }
 {
     let mut k = 0;
     while k < count {
         let row = edges[k];
-        if row_leads(values, truths, x, row, hops, a, goal) {
+        if row_leads(values, truths, x, row, distances, a, goal) {
             return k;
         }
         k += 1;
@@ -121,27 +134,27 @@ fn nearer_edge<'a>(
     k
 }
 
-// "The path is a shortest walk from s's origin to t's origin; at each step take the lowest-numbered open edge that leads one step nearer."
-// Puts the edges' numbers into the path, and answers how many steps it has.
-pub fn shortest_path<'a>(
+// "The path shall have the fewest write edges, and among those the fewest edges; at each step the lowest-numbered open edge that lies on
+// such a path." Puts the edges' numbers into the path, and answers how many steps it has.
+pub fn least_path<'a>(
     values: &'a [u64; MAX_BASES],
     truths: &'a [u8; MAX_BOOLEANS],
     edges: &'a [u32; MAX_EDGES],
     ways: usize,
-    hops: &'a [[u8; MAX_ARRAYS]; MAX_ARRAYS],
+    distances: &'a [[u8; MAX_ARRAYS]; MAX_ARRAYS],
     x: u64,
     arrays: usize,
     from: usize,
     goal: usize,
     path: &mut [u8; MAX_ARRAYS],
 ) -> usize
-    requires { ⌜ Asked (tableOf (now values) (now truths) (now edges) ways) x arrays from goal (now hops) × (length (now path) ≡ maxArrays) ⌝ }
+    requires { ⌜ Asked (tableOf (now values) (now truths) (now edges) ways) x arrays from goal (now distances) × (length (now path) ≡ maxArrays) ⌝ }
     ensures { λ r. ⌜ PathOf (tableOf (now (values .entry)) (now (truths .entry)) (now (edges .entry)) ways) x arrays from goal (now (path .exit)) r ⌝ }
 {
     let mut steps = 0;
     let mut a = from;
     while a != goal {
-        let k = nearer_edge(values, truths, edges, ways, hops, x, a, goal);
+        let k = nearer_edge(values, truths, edges, ways, distances, x, a, goal);
         path[steps] = k as u8;
         steps += 1;
         let row = edges[k];

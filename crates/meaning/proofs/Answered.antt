@@ -34,7 +34,7 @@ use Rattle.meaning.proofs.Verdict.{numbered, fits-none, unfit-some}
 use Rattle.meaning.proofs.Demands.{bounded, refused-alike, consistent-exactly, lookup-interprets}
 
 -- an answer by room: with a large one it is there, so with any other it is the same or refused, by its length
-settle : {A : Type 0} (at : ℕ → A) (measure : A → ℕ) (answer refused : A) (room large : ℕ) → measure answer ≤ large
+pub settle : {A : Type 0} (at : ℕ → A) (measure : A → ℕ) (answer refused : A) (room large : ℕ) → measure answer ≤ large
     → ((any : ℕ) → ((measure answer ≤ any) × (at any ≡ answer)) ⊎ ((any < measure answer) × (at any ≡ refused)))
     → ((room < measure (at large)) × (at room ≡ refused)) ⊎ ((measure (at large) ≤ room) × (at room ≡ at large))
 settle {A} at measure answer refused room large fits by = go (by large) (by room)

@@ -69,6 +69,23 @@ equal-most i j = go (eqb i j)
     go true = omega arith
     go false = omega arith
 
+-- the literals of a walk: "equal", one for each edge, and the conclusion, at most
+pub walk-literals : (s t : Source) (walked : List Edge)
+    → length (hypotheses (indexNumber (s .place)) (indexNumber (t .place)) walked ++ (Literal.conclusion (s .value) (t .value) ∷ [])) ≤ length walked + 2
+unfolding hypotheses
+walk-literals s t walked =
+    let i = indexNumber (s .place) in
+    let j = indexNumber (t .place) in
+    let raw = equalIndices i j ++ map (λ (edge : Edge). literalOf i (edge .guard)) walked in
+    omega (
+      arith,
+      length-append (onceAfter [] raw) (Literal.conclusion (s .value) (t .value) ∷ []),
+      once-shorter [] raw,
+      length-append (equalIndices i j) (map (λ (edge : Edge). literalOf i (edge .guard)) walked),
+      length-map walked (λ (edge : Edge). literalOf i (edge .guard)),
+      equal-most i j,
+    )
+
 -- "equal" stands at most once, and with a path of fewer steps than there are array terms there are at most 49 literals
 module _ (terms : List Term) (g : Assignment) (pair : Pair) where
   pub equal-once : count isEqual (lemma terms g pair) ≤ 1
@@ -97,16 +114,5 @@ module _ (terms : List Term) (g : Assignment) (pair : Pair) where
       along i (edge ∷ edges) = rw (of-guard i (edge .guard), along i edges)
 
   pub literals-bound : length (path terms g pair) < given array terms → given array terms ≤ 48 → length (lemma terms g pair) ≤ 49
-  unfolding lemma hypotheses
-  literals-bound short few =
-      let i = indexNumber (pair .first .place) in
-      let j = indexNumber (pair .later .place) in
-      let raw = equalIndices i j ++ map (λ (edge : Edge). literalOf i (edge .guard)) (path terms g pair) in
-      omega (
-        arith,
-        length-append (onceAfter [] raw) (Literal.conclusion (pair .first .value) (pair .later .value) ∷ []),
-        once-shorter [] raw,
-        length-append (equalIndices i j) (map (λ (edge : Edge). literalOf i (edge .guard)) (path terms g pair)),
-        length-map (path terms g pair) (λ (edge : Edge). literalOf i (edge .guard)),
-        equal-most i j,
-      )
+  unfolding lemma
+  literals-bound short few = omega (arith, walk-literals (pair .first) (pair .later) (path terms g pair))

@@ -21,7 +21,7 @@ use Rattle.paper.specs.Answers.{Verdict, Checked, checkRefused, check, look, Wr
 use Rattle.meaning.proofs.Whole.{pairOf, pairsOf, lemmaOf, modelOf}
 
 -- an answer of so many elements, or 10 where that is more than the room
-by-room : {A : Type 0} (room long : ℕ) (answer : A) (refusedFor : ℕ → A)
+pub by-room : {A : Type 0} (room long : ℕ) (answer : A) (refusedFor : ℕ → A)
     → ((long ≤ room) × (unlessRefused (firstMet ((ltb room long refuses 10) ∷ [])) refusedFor answer ≡ answer))
     ⊎ ((room < long) × (unlessRefused (firstMet ((ltb room long refuses 10) ∷ [])) refusedFor answer ≡ refusedFor 10))
 by-room {A} room long answer refusedFor = go (ltb room long) refl

@@ -1,4 +1,4 @@
--- The pair that is taken: it conflicts, it is the least, and its path is a shortest walk. Its lemma is false under the guess.
+-- The pair that is taken: it conflicts, it is the least, and its path has the fewest writes, and then the fewest edges. Its lemma is false under the guess.
 -- Assumes nothing.
 use Prim.Native.Nat.{ℕ, _<_, _≤_}
 use native.Mathlib.Nat.{le-refl}
@@ -15,13 +15,14 @@ use Rattle.paper.specs.Lists.{_∈_, mapOption, orElse, find}
 use Rattle.paper.specs.Fields.{base, boolean, array}
 use Rattle.paper.specs.Terms.{Term, given, Assignment}
 use Rattle.paper.specs.Edges.{indexNumber, Source, sources, Guard, Edge, edges, opens, openEdges}
-use Rattle.paper.specs.Reach.{Walk, indexValue, costs, stepCost, distances, reaches}
+use Rattle.paper.specs.Reach.{Walk, indexValue, near, stepCost, distances, reaches}
 use Rattle.paper.specs.Conflict.{Pair, conflicts, firstPair}
-use Rattle.paper.specs.Lemma.{Literal, literalOf, hypotheses, path, lemma, says, isConclusion, lemmaHolds}
+use Rattle.paper.specs.Lemma.{Literal, pathFrom, literalOf, hypotheses, path, lemma, says, isConclusion, lemmaHolds}
 use Rattle.meaning.proofs.Lists.{find-in, find-none, find-first, keep-in, none-has, same-test}
 use Rattle.meaning.proofs.Walks.{walked-among}
 use Rattle.meaning.proofs.Distances.{entry-least}
-use Rattle.meaning.proofs.Paths.{Lowest, path-found}
+use Rattle.meaning.proofs.Paths.{Found, path-found}
+use Rattle.meaning.proofs.Fewest.{Fewest, Stepwise, least-fewest, lowest-stepwise}
 use Rattle.meaning.proofs.Given.{Numbered, GuardGiven, SourceGiven, edge-given, source-given, open-ranged, open-is-edge}
 use Rattle.meaning.proofs.Reach.{reached-walk}
 use Rattle.meaning.proofs.Literals.{hypothesis-is, not-conclusion, Within}
@@ -116,47 +117,63 @@ clash terms g s t e = indices (eqb (indexValue g s) (indexValue g t)) refl e
 eqb-swap : (m n : ℕ) → eqb m n ≡ eqb n m
 eqb-swap m n = same-test (eqb m n) (eqb n m) (λ e. eq-eqb n m (sym (eqb-true m n e))) (λ e. eq-eqb m n (sym (eqb-true n m e)))
 
-step-positive : (guard : Guard) → 0 < stepCost guard
-step-positive (Guard.differ index) = le-refl 1
+pub step-positive : (guard : Guard) → 0 < stepCost guard
+step-positive (Guard.differ index) = omega arith
 step-positive (Guard.isTrue m) = le-refl 1
 step-positive (Guard.isFalse m) = le-refl 1
 
--- every step costs 1, so that a walk of least cost is one of fewest steps
-one-a-step : (walked : List Edge) → costs stepCost walked ≡ length walked
-one-a-step [] = refl
-one-a-step (edge ∷ walked) = rw (each (edge .guard), one-a-step walked) (omega arith)
-  where
-    each : (guard : Guard) → stepCost guard ≡ 1
-    each (Guard.differ index) = refl
-    each (Guard.isTrue m) = refl
-    each (Guard.isFalse m) = refl
-
--- "The path is a shortest walk from s's origin to t's origin; at each step take the lowest-numbered open edge that leads one step nearer"
-pub record Shortest (terms : List Term) (g : Assignment) (pair : Pair) : Type 0 where
-  pub way : Walk (openEdges terms g (indexValue g (pair .first))) (pair .first .origin) (path terms g pair) (pair .later .origin)
-  pub fewest : (other : List Edge) → Walk (openEdges terms g (indexValue g (pair .first))) (pair .first .origin) other (pair .later .origin)
-      → length (path terms g pair) ≤ length other
-  pub lowest : Lowest stepCost (openEdges terms g (indexValue g (pair .first))) (pair .later .origin) (pair .first .origin) (path terms g pair)
+-- 02, E6: "The path shall have the fewest write edges, and among those the fewest edges; at each step the lowest-numbered open edge that
+-- lies on such a path"
+pub record FewestPath (terms : List Term) (g : Assignment) (pair : Pair) : Type 0 where
+  pub fewest : Fewest (openEdges terms g (indexValue g (pair .first))) (pair .later .origin) (pair .first .origin) (path terms g pair)
+  pub stepwise : Stepwise (openEdges terms g (indexValue g (pair .first))) (pair .later .origin) (pair .first .origin) (path terms g pair)
   pub short : length (path terms g pair) < given array terms
 
 module _ (terms : List Term) (numbered : Numbered terms) (g : Assignment) (pair : Pair) (one : Taken terms g (sources terms) (pair .first) (pair .later)) where
   known : Clash terms g (pair .first) (pair .later)
   known = clash terms g (pair .first) (pair .later) (one .clash)
 
-  -- the path of the pair has all that is promised of it
-  pub path-is : Shortest terms g pair
-  unfolding path distances reaches
-  path-is =
+  starts : pair .first .origin < given array terms
+  starts = source-given terms numbered (pair .first) (taken-first terms g one) .origin
+
+  -- between the two origins there is a path, by any cost of at least 1
+  pub path-by : (cost : Guard → ℕ) (positive : (guard : Guard) → 0 < cost guard)
+      → let x = indexValue g (pair .first) in
+      let among = openEdges terms g x in
+      let n = given array terms in
+      let goal = pair .later .origin in
+      let found = pathFrom cost n among (near cost among n goal n) (pair .first .origin) in
+      ((d : ℕ) × Found cost among n goal (open-ranged terms numbered g x) positive (pair .first .origin) d found) × (length found < n)
+  unfolding reaches
+  path-by cost positive =
       let x = indexValue g (pair .first) in
       let ranged = open-ranged terms numbered g x in
       let way = reached-walk terms numbered g x (pair .first) (known .reached) in
-      let first-here = taken-first terms g one in
-      let least = entry-least stepCost (openEdges terms g x) (given array terms) (pair .later .origin) ranged (source-given terms numbered (pair .first) first-here .origin) (way .1) in
-      let (found, short) = path-found stepCost (openEdges terms g x) (given array terms) (pair .later .origin) ranged step-positive (least .1) in
+      let least = entry-least cost (openEdges terms g x) (given array terms) (pair .later .origin) ranged starts (way .1) in
+      let (found, short) = path-found cost (openEdges terms g x) (given array terms) (pair .later .origin) ranged positive (least .1) in
+      ((least .0, found), short)
+
+  -- the path of the pair is such a one
+  pub path-way : Walk (openEdges terms g (indexValue g (pair .first))) (pair .first .origin) (path terms g pair) (pair .later .origin)
+  unfolding path distances
+  path-way = path-by stepCost step-positive .0 .1 .way
+
+  pub path-short : length (path terms g pair) < given array terms
+  unfolding path distances
+  path-short = path-by stepCost step-positive .1
+
+  -- and of at most 48 array terms it has all that is promised of it
+  pub path-is : given array terms ≤ 48 → FewestPath terms g pair
+  unfolding path distances
+  path-is few =
+      let x = indexValue g (pair .first) in
+      let ranged = open-ranged terms numbered g x in
+      let ((d, found), short) = path-by stepCost step-positive in
       record {
-        way = found .way;
-        fewest = λ other walk. omega (arith, found .total, found .least other walk, one-a-step (path terms g pair), one-a-step other);
-        lowest = found .lowest;
+        fewest =
+            least-fewest (openEdges terms g x) (given array terms) (pair .later .origin) ranged few starts (found .way)
+            (λ other there. omega (arith, found .least other there, found .total));
+        stepwise = lowest-stepwise (openEdges terms g x) (given array terms) (pair .later .origin) ranged few starts (found .lowest);
         short = short;
       }
 
@@ -175,7 +192,7 @@ module _ (terms : List Term) (numbered : Numbered terms) (g : Assignment) (pair 
           ⊎ ((edge : Edge) × (edge ∈ path terms g pair) × (l ≡ literalOf (indexNumber (pair .first .place)) (edge .guard))) → says g l ≡ true
       go (inl is) = rw is (eq-eqb (indexValue g (pair .first)) (indexValue g (pair .later)) (known .indices))
       go (inr along) =
-          let open-here = walked-among (path-is .way) (along .0) (along .1) in
+          let open-here = walked-among path-way (along .0) (along .1) in
           rw (along .2)
           (sym (open-says (indexNumber (pair .first .place)) (along .0 .guard))
           ∙ keep-in (λ edge. opens g (indexValue g (pair .first)) (edge .guard)) (edges terms) open-here .1)
@@ -212,7 +229,7 @@ module _ (terms : List Term) (numbered : Numbered terms) (g : Assignment) (pair 
           ⊎ ((edge : Edge) × (edge ∈ path terms g pair) × (l ≡ literalOf (indexNumber (pair .first .place)) (edge .guard))) → Within (given base terms) (given boolean terms) l
       go (inl is) = rw is (first-given .place, later-given .place)
       go (inr along) =
-          let open-here = walked-among (path-is .way) (along .0) (along .1) in
+          let open-here = walked-among path-way (along .0) (along .1) in
           rw (along .2)
           (guard-within (indexNumber (pair .first .place)) (first-given .place) (along .0 .guard)
           (edge-given terms numbered (along .0) (open-is-edge terms numbered g (indexValue g (pair .first)) (along .0) open-here) .guard))

@@ -13,8 +13,8 @@ use Rattle.paper.specs.Fields.{array}
 use Rattle.paper.specs.Terms.{given, Query}
 use Rattle.paper.specs.Interpretations.{Interpretation, Consistent}
 use Rattle.paper.specs.Load.{Loaded, load, maxBytes}
-use Rattle.paper.specs.Edges.{Source, sources}
-use Rattle.paper.specs.Reach.{Reaches, reaches}
+use Rattle.paper.specs.Edges.{Source, sources, Guard}
+use Rattle.paper.specs.Reach.{Reaches, stepCost, reaches}
 use Rattle.paper.specs.Conflict.{Pair}
 use Rattle.paper.specs.Lemma.{Literal}
 use Rattle.paper.specs.Model.{model}
@@ -23,9 +23,10 @@ use Rattle.paper.specs.Clauses.{clausesOf, freshCount}
 use Rattle.paper.specs.Answers.{Verdict, check, checkRefused, look, lookRefused, writeClauses, writeRefused}
 use Rattle.meaning.proofs.Built.{AreBytes}
 use Rattle.meaning.proofs.Accepted.{accepted}
+use Rattle.meaning.proofs.Sources.{arrays-bound}
 use Rattle.meaning.proofs.Refusals as Refusals
 use Rattle.meaning.proofs.Reach as Reach
-use Rattle.meaning.proofs.Conflicts.{Taken, Shortest, path-is}
+use Rattle.meaning.proofs.Conflicts.{Taken, FewestPath, path-is}
 use Rattle.meaning.proofs.Whole.{guessOf, pairOf, pairsOf}
 use Rattle.meaning.proofs.Verdict.{numbered, pair-taken}
 use Rattle.meaning.proofs.Counts as Counts
@@ -35,6 +36,8 @@ use Rattle.meaning.proofs.Demands as Demands
 use Rattle.meaning.proofs.Demands.{Lemma, Clausal, Bounded}
 use Rattle.meaning.proofs.Answered as Answered
 use Rattle.meaning.proofs.Answered.{IsAnswered}
+use Rattle.meaning.proofs.Costs as Costs
+use Rattle.meaning.proofs.Costs.{pairsBy, conflictBy, checkBy, Alike, AlikeUnlessLong}
 
 -- Demand 1. Every string of bytes has one answer, since the calls are functions of it. What is refused as it is read is refused by a
 -- number of 01's: 1 where it is too long, or else 2 to 9, at a place inside.
@@ -107,11 +110,19 @@ module _ (w : ℕ) (bytes : List ℕ) (query : Query) (are-bytes : AreBytes byte
   pub pair-least : (pair : Pair) → pairOf query ≡ some pair → Taken (query .terms) (guessOf query) (sources (query .terms)) (pair .first) (pair .later)
   pair-least = pair-taken (accepted w bytes query are-bytes loaded)
 
-  -- Its path is a walk of open edges between the two origins; of all such walks none has fewer steps; each step is the lowest-numbered open
-  -- edge that leads one step nearer; and it has fewer steps than there are array terms.
-  pub path-shortest : (pair : Pair) → pairOf query ≡ some pair → Shortest (query .terms) (guessOf query) pair
-  path-shortest pair found =
-      path-is (query .terms) (numbered (accepted w bytes query are-bytes loaded)) (guessOf query) pair (pair-least pair found)
+  -- 02, E6. Its path is a walk of open edges between the two origins; of all such walks none has fewer write edges, and none with as few has
+  -- fewer edges; each step is the lowest-numbered open edge with which such a walk begins; and it has fewer edges than there are array terms.
+  pub path-fewest : (pair : Pair) → pairOf query ≡ some pair → FewestPath (query .terms) (guessOf query) pair
+  path-fewest pair found =
+      let ok = accepted w bytes query are-bytes loaded in
+      path-is (query .terms) (numbered ok) (guessOf query) pair (pair-least pair found) (arrays-bound ok)
+
+  -- Pair count and conflicting pair are those of every cost of a step, and so as they were when every step cost 1.
+  pub pairs-any-cost : (cost : Guard → ℕ) → pairsBy cost (query .terms) (guessOf query) ≡ pairsOf query
+  pairs-any-cost cost = Costs.pairs-any cost (query .terms) (numbered (accepted w bytes query are-bytes loaded)) (guessOf query)
+
+  pub pair-any-cost : (cost : Guard → ℕ) → conflictBy cost (query .terms) (guessOf query) ≡ pairOf query
+  pair-any-cost cost = Costs.conflict-any cost (query .terms) (numbered (accepted w bytes query are-bytes loaded)) (guessOf query)
 
 -- The same of the clauses at width 32, with 12,625 numbers: those of every query that no memories fit are written.
 pub clauses-answered : (bytes : List ℕ) (query : Query) → AreBytes bytes → load 32 bytes ≡ Loaded.accepted query → (Consistent 32 query → ⊥)
@@ -130,3 +141,22 @@ clause-count = Counts.clauses-count
 
 pub fresh-count : (w : ℕ) (literals : List Literal) → freshCount w literals ≡ w * count Counts.isEqual literals + count Counts.hasE literals
 fresh-count = Counts.fresh-count
+
+-- 02, E6: "The verdict, the pair and the counts don't move." `checkBy` is the check with any cost of a step; with the paper's own it is the
+-- paper's.
+pub check-own-cost : (w : ℕ) (bytes : List ℕ) (room : ℕ) → checkBy stepCost w bytes room ≡ check w bytes room
+check-own-cost = Costs.check-is
+
+module _ (cost : Guard → ℕ) (positive : (guard : Guard) → 0 < cost guard) (w : ℕ) (bytes : List ℕ) (are-bytes : AreBytes bytes) (room : ℕ) where
+  -- Verdict, refusal, offset and pair count are those of every cost of at least 1, for every string of bytes and every buffer. There is one
+  -- exception: a buffer of less than 343 bytes that holds one of the two lemmas and not the other. Then that other one is refused 10.
+  pub check-any-cost : AlikeUnlessLong (checkBy cost w bytes) (check w bytes) room
+  check-any-cost = Costs.check-any cost positive w bytes are-bytes room
+
+  -- So with a buffer that holds both lemmas, as 343 bytes do, there is none.
+  pub check-any-cost-fits : length (checkBy cost w bytes 343 .written) ≤ room → length (check w bytes 343 .written) ≤ room
+      → Alike (checkBy cost w bytes room) (check w bytes room)
+  check-any-cost-fits = Costs.check-any-fits cost positive w bytes are-bytes room
+
+  pub check-any-cost-343 : 343 ≤ room → Alike (checkBy cost w bytes room) (check w bytes room)
+  check-any-cost-343 = Costs.check-any-343 cost positive w bytes are-bytes room

@@ -4,6 +4,7 @@ pub mod Distinct
 pub mod Walks
 pub mod Distances
 pub mod Paths
+pub mod Fewest
 pub mod Tests
 pub mod Built
 pub mod Placed
@@ -33,4 +34,5 @@ pub mod Called
 pub mod Verdict
 pub mod Demands
 pub mod Answered
+pub mod Costs
 pub mod Headline

@@ -17,7 +17,7 @@ use Rattle.paper.specs.Reach.{Joins, Walk, stay, step, across, costs, over, nea
 use Rattle.paper.specs.Lemma.{sameDistance, leadsNearer, pathFrom}
 use Rattle.meaning.proofs.Lists.{find-in, find-none, find-first}
 use Rattle.meaning.proofs.Distinct.{Distinct}
-use Rattle.meaning.proofs.Walks.{Ranged, joins-below, visited, simple-short}
+use Rattle.meaning.proofs.Walks.{joins-back, Ranged, joins-below, visited, simple-short}
 use Rattle.meaning.proofs.Distances.{joins-across, over-is, over-by, entry, entry-inside, entry-walk, entry-least}
 
 module _ (cost : Guard → ℕ) (among : List Edge) (goal : ℕ) where
@@ -28,17 +28,25 @@ module _ (cost : Guard → ℕ) (among : List Edge) (goal : ℕ) where
     pub total : costs cost walked ≡ d
     pub least : (other : List Edge) → Walk among a other goal → d ≤ costs cost other
 
+  -- the two ends of an edge are at most its cost apart
+  pub ends-near : {a b d d′ : ℕ} (edge : Edge) → edge ∈ among → Joins edge a b → Least a d → Least b d′
+      → (d ≤ cost (edge .guard) + d′) × (d′ ≤ cost (edge .guard) + d)
+  ends-near edge here joined one other = (
+    omega (arith, one .least (edge ∷ other .walked) (step here joined (other .way)), other .total),
+    omega (arith, other .least (edge ∷ one .walked) (step here (joins-back edge joined) (one .way)), one .total),
+  )
+
   -- an edge leads nearer: with it, a walk of least cost goes on from its other end
   abbrev pub Nearer : (a : ℕ) → Edge → Type 0
   Nearer a edge = (b d : ℕ) × Joins edge a b × Least b d × Least a (cost (edge .guard) + d)
 
-  -- "at each step take the lowest-numbered open edge that leads one step nearer": no edge before it in the list does
+  -- at each step the lowest-numbered open edge that leads nearer: no edge before it in the list does
   pub data Lowest : ℕ → List Edge → Type 0 where
     arrived : Lowest goal []
     onward : {a b : ℕ} {edge : Edge} {walked : List Edge} (before after : List Edge) → among ≡ before ++ (edge ∷ after) → Nearer a edge
         → ((other : Edge) → other ∈ before → Nearer a other → ⊥) → Joins edge a b → Lowest b walked → Lowest a (edge ∷ walked)
 
-sameDistance-is : (one other : Option ℕ) → sameDistance one other ≡ true → (d : ℕ) × (one ≡ some d) × (other ≡ some d)
+pub sameDistance-is : (one other : Option ℕ) → sameDistance one other ≡ true → (d : ℕ) × (one ≡ some d) × (other ≡ some d)
 sameDistance-is none other e = absurd (false≢true e)
 sameDistance-is (some m) none e = absurd (false≢true e)
 sameDistance-is (some m) (some n) e = (m, refl, ap some (sym (eqb-true m n e)))

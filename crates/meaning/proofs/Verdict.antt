@@ -20,7 +20,7 @@ use Rattle.meaning.proofs.Soundness.{walk-sound}
 use Rattle.meaning.proofs.Literals.{lemma-same, Within}
 use Rattle.meaning.proofs.Model.{model-interprets}
 use Rattle.meaning.proofs.Whole.{guessOf, pairOf, lemmaOf, modelOf}
-use Rattle.meaning.proofs.Conflicts.{Taken, taken, taken-first, taken-later, path-is, lemma-fails, lemma-within}
+use Rattle.meaning.proofs.Conflicts.{Taken, taken, taken-first, taken-later, path-way, path-short, lemma-fails, lemma-within}
 use Rattle.meaning.proofs.Bounds.{literals-bound}
 
 module _ {w : ℕ} {query : Query} (ok : Accepted w query) where
@@ -45,7 +45,7 @@ module _ {w : ℕ} {query : Query} (ok : Accepted w query) where
         (taken-first (query .terms) (guessOf query) pair-taken)
         (taken-later (query .terms) (guessOf query) pair-taken)
         (walk-among (open-is-edge (query .terms) numbered (guessOf query) (guessOf query .value _))
-        (path-is (query .terms) numbered (guessOf query) pair pair-taken .way))
+        (path-way (query .terms) numbered (guessOf query) pair pair-taken))
 
     -- and is false under the guess
     pub lemma-false : lemmaHolds (guessOf query) (lemmaOf query pair) ≡ false
@@ -65,7 +65,7 @@ module _ {w : ℕ} {query : Query} (ok : Accepted w query) where
     pub literals-most : length (lemmaOf query pair) ≤ 49
     literals-most =
         literals-bound (query .terms) (guessOf query) pair
-        (path-is (query .terms) numbered (guessOf query) pair pair-taken .short)
+        (path-short (query .terms) numbered (guessOf query) pair pair-taken)
         (arrays-bound ok)
 
   -- So there is no pair exactly if some memories fit

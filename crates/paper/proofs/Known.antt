@@ -6,15 +6,15 @@ use mathlib.Core.Path.{_≡_, refl}
 use mathlib.Core.Bool.{Bool, true, false, not}
 use mathlib.Core.List.{List, [], _∷_, _++_, map}
 use mathlib.Core.Option.{Option, none, some}
-use lib.Dec.{eqb}
+use lib.Dec.{eqb, ltb}
 use lib.IntN.{ℤ, pos, negsuc}
 use lib.ListN.{length, replicate}
 use Rattle.paper.specs.Lists.{concatMap, range}
 use Rattle.paper.specs.Fields.{itemAt}
 use Rattle.paper.specs.Terms.{given, Assignment, assigned}
 use Rattle.paper.specs.Load.{faults, extend, load}
-use Rattle.paper.specs.Edges.{sources, edges, openEdges}
-use Rattle.paper.specs.Reach.{distances, reachesAt, reaches, pairs}
+use Rattle.paper.specs.Edges.{sources, Guard, Edge, edges, openEdges}
+use Rattle.paper.specs.Reach.{costs, writes, stepCost, distances, reachesAt, reaches, pairs}
 use Rattle.paper.specs.Conflict.{conflicts, conflict}
 use Rattle.paper.specs.Lemma.{Literal, hypotheses, path, lemma, lemmaHolds}
 use Rattle.paper.specs.Model.{model}
@@ -26,6 +26,7 @@ use Rattle.paper.specs.Answers.{Verdict, Checked, Looked, Listed, Writte
 use Rattle.paper.proofs.Queries.{freeBase, freeBoolean, variable, write, conditional, read, equality, equals, differs, holds, fails, concludes, times}
 use Rattle.paper.proofs.Queries.{k1, k2, k3, k4With, k6With, k9, k10, k11tag, k11short, k11length, k12}
 use Rattle.paper.proofs.Queries.{o1, o2, o3, o4, o5, o6, o7, o8, o9, o10, o11, o12, o13, oneRead, twoReads, basesTwo, arraysTwo}
+use Rattle.paper.proofs.Queries.{o14, o15, o16, o17, o18, o19, o20, o21}
 
 -- what a call answers, or a definition gives; of the clause writer, where that is enough, how many numbers and not which
 pub data Answer : Type 0 where
@@ -146,6 +147,10 @@ k3Run =
     (range 0 32)
     ++ (pos 97 ∷ pos 0 ∷ [])
 
+-- an edge, of which only what opens it matters
+abbrev pub edgeBy : Guard → Edge
+edgeBy guard = record { left = 0; right = 1; guard = guard }
+
 -- 01's own, K1 to K12
 unfoldable pub ofThePaper : List Row
 ofThePaper =
@@ -191,20 +196,37 @@ unfoldable pub lemmas : List Row
 lemmas =
     conflictOf o1 8 (differs 0 1 ++ concludes 3 4)
     ∷ clausesCount o1 129 162 515
-    ∷ conflictOf o2 6 (differs 0 1 ++ concludes 3 4)
-    ∷ clausesCount o2 129 163 515
+    ∷ conflictOf o2 6 (holds 0 ++ concludes 3 4)
+    ∷ clausesCount o2 65 162 259
     ∷ conflictOf o3 9 (holds 0 ++ concludes 3 4)
     ∷ clausesCount o3 65 162 259
     ∷ conflictOf o4 9 (holds 0 ++ concludes 1 3)
     ∷ conflictOf o5 11 (differs 0 1 ++ holds 0 ++ concludes 3 4)
     ∷ conflictOf o6 4 (fails 0 ++ concludes 1 2)
-    ∷ conflictOf o7 20 (differs 0 1 ++ holds 0 ++ concludes 4 5)
+    ∷ conflictOf o7 20 (holds 0 ++ holds 1 ++ concludes 4 5)
     ∷ conflictOf o8 20 (holds 0 ++ concludes 4 5)
     ∷ conflictOf o9 6 (holds 1 ++ concludes 1 2)
     ∷ conflictOf o10 11 (equals 0 1 ++ differs 0 2 ++ holds 0 ++ fails 1 ++ concludes 3 4)
     ∷ conflictOf o11 8 (holds 0 ++ concludes 1 2)
     ∷ conflictOf o12 5 (concludes 2 4)
     ∷ conflictOf (twoReads ++ equality 0 1 1 1 2) 4 (holds 0 ++ concludes 1 2)
+    ∷ []
+
+-- 02, E6: which way: the fewest write edges, among those the fewest edges, and then the lowest numbers. A walk's writes are counted each;
+-- one costs more than the 47 edges that a way over 48 array terms has at most
+unfoldable pub ways : List Row
+ways =
+    conflictOf o14 12 (holds 0 ++ holds 1 ++ concludes 3 4)
+    ∷ clausesCount o14 65 195 260
+    ∷ conflictOf o15 12 (holds 0 ++ holds 1 ++ concludes 3 4)
+    ∷ conflictOf o16 22 (holds 0 ++ holds 1 ++ differs 0 1 ++ concludes 3 4)
+    ∷ conflictOf o17 15 (differs 0 2 ++ concludes 4 5)
+    ∷ conflictOf o18 10 (differs 0 1 ++ concludes 3 5)
+    ∷ conflictOf o19 4 (holds 0 ++ concludes 1 2)
+    ∷ conflictOf o20 24 (differs 0 1 ++ holds 1 ++ concludes 4 5)
+    ∷ conflictOf o21 35 (holds 2 ++ differs 0 1 ++ holds 1 ++ concludes 4 5)
+    ∷ (valueIs (writes (edgeBy (Guard.differ 1) ∷ edgeBy (Guard.isTrue 0) ∷ edgeBy (Guard.differ 1) ∷ edgeBy (Guard.isFalse 1) ∷ [])) is valueIs 2)
+    ∷ (truthIs (ltb (costs stepCost (replicate 47 (edgeBy (Guard.isTrue 0)))) (costs stepCost (edgeBy (Guard.differ 1) ∷ []))) is truthIs true)
     ∷ []
 
 -- 2, 3, 4, 2 of a field's head and value
@@ -311,12 +333,14 @@ listings =
     ∷ noCells (k6With 0 0) 304 0 9 110
     ∷ []
 
--- 10: what just fits, and one less; a consistent check needs no room; 12 before 10
+-- 10: what just fits, and one less, which of O14 would hold the lemma of a shortest walk; a consistent check needs no room; 12 before 10
 unfoldable pub rooms : List Row
 rooms =
     conflictIn k3 7 2 (concludes 1 2)
     ∷ refusedIn k3 6 10 0
     ∷ refusedIn k3 0 10 0
+    ∷ conflictIn o14 17 12 (holds 0 ++ holds 1 ++ concludes 3 4)
+    ∷ refusedIn o14 16 10 0
     ∷ consistentIn k2 0 2
     ∷ refusedIn (k6With 0 0) 0 9 110
     ∷ clausesIn k3 258 65 97 k3Run
@@ -373,7 +397,7 @@ readings =
     ∷ []
 
 unfoldable pub table : List Row
-table = ofThePaper ++ lemmas ++ heads ++ limits ++ fields ++ cells ++ listings ++ rooms ++ meanings ++ clauses ++ readings
+table = ofThePaper ++ lemmas ++ ways ++ heads ++ limits ++ fields ++ cells ++ listings ++ rooms ++ meanings ++ clauses ++ readings
 
 abbrev pub answers : Row → Answer
 answers (one is other) = one
@@ -382,5 +406,5 @@ abbrev pub says : Row → Answer
 says (one is other) = other
 
 pub known : map answers table ≡ map says table
-unfolding itemAt given faults extend load sources edges openEdges distances reachesAt reaches pairs conflicts conflict hypotheses path lemma model namedClauses freshCount clausesOf Listing.cells check look list writeClauses table ofThePaper lemmas heads limits fields cells listings rooms meanings clauses readings consistentIn conflictIn refusedIn clausesCount clausesIn noClauses cell noCell cellsIn noCells count
+unfolding itemAt given faults extend load sources edges openEdges distances reachesAt reaches pairs conflicts conflict hypotheses path lemma model namedClauses freshCount clausesOf Listing.cells check look list writeClauses table ofThePaper lemmas ways heads limits fields cells listings rooms meanings clauses readings consistentIn conflictIn refusedIn clausesCount clausesIn noClauses cell noCell cellsIn noCells count
 known = refl

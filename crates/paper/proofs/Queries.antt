@@ -1,4 +1,4 @@
--- 01, Known queries: K1 to K12 as bytes, and ours, O1 to O13; and the fields of lemmas, as 01 spells them. Nothing here calls what the table
+-- 01, Known queries: K1 to K12 as bytes, and ours, O1 to O21; and the fields of lemmas, as 01 spells them. Nothing here calls what the table
 -- tests: bytes are put in order once more.
 -- Assumes nothing.
 use Prim.Native.Nat.{ℕ, _/_, _%_}
@@ -112,11 +112,11 @@ twoWrites =
 abbrev pub o1 : List ℕ
 o1 = twoWrites ++ read 2 0 8 ++ read 0 0 9
 
--- O2: two open edges between the same arrays, of which the lower-numbered is taken
+-- O2: a write and an equality between the same arrays: the equality is taken, although its number is higher
 abbrev pub o2 : List ℕ
 o2 = freeBase 1 ++ freeBase 2 ++ freeBase 30 ++ variable ++ write 0 1 2 ++ read 1 0 8 ++ read 0 0 9 ++ equality 1 0 1 3 4
 
--- O3: the one higher-numbered edge is the shorter way
+-- O3: the one higher-numbered edge is the shorter way, and has no write
 abbrev pub o3 : List ℕ
 o3 = twoWrites ++ read 2 0 8 ++ read 0 0 9 ++ equality 2 0 1 3 4
 
@@ -134,7 +134,7 @@ o5 =
 abbrev pub o6 : List ℕ
 o6 = freeBoolean 0 ++ freeBase 1 ++ variable ++ conditional 0 0 0 ++ read 1 0 8 ++ read 0 0 9 ++ equality 1 0 1 1 2
 
--- O7, O8: of two ways of two steps, that by the lower edge: a write below a conditional, and a conditional below a write
+-- O7, O8: of two ways of two steps, that without a write, whether it begins with the higher edge or with the lower
 abbrev pub o7 : List ℕ
 o7 =
     freeBase 1 ++ freeBase 2 ++ freeBase 30 ++ freeBase 5 ++ freeBoolean 1 ++ variable ++ write 0 1 2 ++ conditional 0 0 0
@@ -168,6 +168,55 @@ o12 = freeBase 5 ++ variable ++ variable ++ read 0 0 6 ++ read 1 0 7 ++ read 1 0
 -- O13: numbers that need all of their bytes
 abbrev pub o13 : List ℕ
 o13 = freeBase 0x01020304 ++ variable ++ read 0 0 0x05060708
+
+-- 02, E6: O14 to O16 are on the fewest writes, O17 and O18 on the fewest edges, O19 to O21 on the lowest numbers
+-- O14: the shortest walk is one write; two equalities are taken, which have none
+abbrev pub o14 : List ℕ
+o14 =
+    freeBase 1 ++ freeBase 2 ++ freeBase 30 ++ variable ++ variable ++ write 0 1 2
+    ++ read 2 0 8 ++ read 0 0 9 ++ read 1 0 8 ++ equality 2 1 1 3 5 ++ equality 1 0 1 5 4
+
+-- O15: a conditional and an equality for the one write
+abbrev pub o15 : List ℕ
+o15 =
+    freeBoolean 1 ++ freeBase 1 ++ freeBase 2 ++ freeBase 30 ++ variable ++ write 0 1 2 ++ conditional 0 1 0
+    ++ read 1 0 8 ++ read 0 0 9 ++ read 2 0 8 ++ equality 2 0 1 5 4
+
+-- O16: two writes at one index, or one write and two equalities: the writes on a way count, not their literals
+abbrev pub o16 : List ℕ
+o16 =
+    twoWrites ++ variable ++ read 2 0 8 ++ read 0 0 9 ++ read 3 0 8 ++ read 1 0 8
+    ++ equality 2 3 1 3 5 ++ equality 3 1 1 5 6
+
+-- O17: two ways with one write each: the shorter is taken, although the longer begins with a lower number
+abbrev pub o17 : List ℕ
+o17 =
+    freeBase 1 ++ freeBase 2 ++ freeBase 3 ++ freeBase 30 ++ variable ++ write 0 1 3 ++ write 0 2 3
+    ++ read 0 0 8 ++ read 2 0 9 ++ read 1 0 9 ++ equality 2 1 1 5 6
+
+-- O18: a lower-numbered equality, which leads off every such way, is not taken before the write
+abbrev pub o18 : List ℕ
+o18 =
+    freeBase 1 ++ freeBase 2 ++ freeBase 30 ++ variable ++ variable ++ read 0 0 8 ++ read 1 0 8 ++ equality 0 1 1 3 4
+    ++ write 0 1 2 ++ read 2 0 9
+
+-- O19: two equalities between the same arrays, of which the lower-numbered is taken
+abbrev pub o19 : List ℕ
+o19 = freeBase 1 ++ variable ++ variable ++ read 0 0 8 ++ read 1 0 9 ++ equality 0 1 1 1 2 ++ equality 1 0 1 2 1
+
+-- two writes over two arrays: with two equalities, of the arrays beneath and of the writes, a square
+abbrev pub square : List ℕ
+square = freeBase 1 ++ freeBase 2 ++ freeBase 3 ++ freeBase 30 ++ variable ++ variable ++ write 0 1 3 ++ write 1 2 3
+
+-- O20: a write and then an equality, or an equality and then a write: the numbers decide at the first step
+abbrev pub o20 : List ℕ
+o20 = square ++ read 0 0 8 ++ read 3 0 9 ++ read 1 0 8 ++ read 2 0 9 ++ equality 0 1 1 4 6 ++ equality 2 3 1 7 5
+
+-- O21: the same after a step that is the only one: the numbers decide at the second
+abbrev pub o21 : List ℕ
+o21 =
+    square ++ variable ++ read 4 0 8 ++ read 3 0 9 ++ read 1 0 8 ++ read 2 0 9 ++ read 0 0 8
+    ++ equality 0 1 1 8 6 ++ equality 2 3 1 7 5 ++ equality 4 0 1 4 8
 
 -- one array, or two, each read at base term 0: what an equality wants
 abbrev pub oneRead : List ℕ

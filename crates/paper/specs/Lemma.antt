@@ -23,7 +23,7 @@ module _ (cost : Guard → ℕ) where
   abbrev pub leadsNearer : List (Option ℕ) → (a : ℕ) → Edge → Bool
   leadsNearer table a edge = sameDistance (over cost table a edge) (getD table a none)
 
-  -- "at each step take the lowest-numbered open edge that leads one step nearer"
+  -- 02, E6: "at each step the lowest-numbered open edge that lies on such a path"
   abbrev pub pathFrom : (bound : ℕ) → List Edge → List (Option ℕ) → (a : ℕ) → List Edge
   pathFrom zero among table a = []
   pathFrom (suc bound) among table a =
@@ -67,7 +67,7 @@ unfoldable pub hypotheses : (i j : ℕ) → List Edge → List Literal
 hypotheses i j path = onceAfter [] (equalIndices i j ++ map (λ edge. literalOf i (edge .guard)) path)
 
 module _ (terms : List Term) (g : Assignment) where
-  -- "The path is a shortest walk from s's origin to t's origin"
+  -- from s's origin to t's origin, 02, E6: "The path shall have the fewest write edges, and among those the fewest edges"
   unfoldable pub path : Pair → List Edge
   path pair =
       let x = indexValue g (pair .first) in

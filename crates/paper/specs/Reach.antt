@@ -55,11 +55,20 @@ module _ (cost : Guard → ℕ) where
       let table = near among n goal rounds in
       map (λ a. foldr (λ edge nearest. least (over table a edge) nearest) (getD table a none) among) (range 0 n)
 
--- "a shortest walk": every step costs 1
+-- a write edge: one that stands for a comparison of two indices
+abbrev pub isWrite : Guard → Bool
+isWrite (Guard.differ index) = true
+isWrite (Guard.isTrue m) = false
+isWrite (Guard.isFalse m) = false
+
+-- the write edges of a walk, each as often as it is walked
+abbrev pub writes : List Edge → ℕ
+writes walked = count (λ edge. isWrite (edge .guard)) walked
+
+-- 02, E6: "the fewest write edges, and among those the fewest edges". Of 48 array terms a walk that comes nowhere twice has at most 47
+-- edges, so a write costs more than all edges that it could spare: least cost is 48 times the writes plus the edges.
 abbrev pub stepCost : Guard → ℕ
-stepCost (Guard.differ index) = 1
-stepCost (Guard.isTrue m) = 1
-stepCost (Guard.isFalse m) = 1
+stepCost guard = cond (isWrite guard) 49 1
 
 module _ (terms : List Term) (g : Assignment) where
   -- the distance from each array term to the goal, over the edges open to index value x: no walk of least cost has more steps than

@@ -1,48 +1,81 @@
--- Hop counts against walks: the least steps of a way are the least cost of a walk, where every step costs 1.
+-- Ways over the words against walks: the least cost of the one is the least cost of the other.
 -- Assumes nothing.
-use Prim.Native.Nat.{ℕ, suc, _+_, _<_}
+use Prim.Native.Nat.{ℕ, _+_, _<_}
 use native.Mathlib.Decide.{ℕ-discrete}
 use native.Mathlib.Omega.{arith}
 use mathlib.Core.Path.{_≡_, refl, sym, ap, _∙_, subst}
-use mathlib.Core.List.{List, [], _∷_}
+use mathlib.Core.Bool.{Bool, true, false, cond, not, false≢true}
+use mathlib.Core.List.{List, [], _∷_, _++_}
 use mathlib.Core.Option.{Option, none, some}
 use lib.ListN.{length, getD, set}
 use lib.Seq.{getD-set-same, getD-set-other}
+use Rattle.paper.specs.Lists.{_∈_}
 use Rattle.paper.specs.Edges.{Guard, Edge}
-use Rattle.paper.specs.Reach.{Walk, stay, step, costs, near, stepCost}
+use Rattle.paper.specs.Reach.{Joins, Walk, stay, step, costs, near, isWrite, stepCost}
+use Rattle.meaning.proofs.Lists.{keep-in, keep-has}
+use Rattle.meaning.proofs.Walks.{walk-on}
 use Rattle.meaning.proofs.Distances.{entry-walk}
-use Rattle.meaning.proofs.Paths.{Least, least-is-entry}
-use Rattle.reach.specs.Reached.{Edges, Ends, hopOf}
-use Rattle.reach.specs.Steps.{Adjacent, Trail, here, onward, Hops}
-use Rattle.reach.proofs.Rows.{open-ranged, way-walk}
+use Rattle.meaning.proofs.Paths.{least-is-entry}
+use Rattle.reach.specs.Reached.{Edges, Ends, entryOf}
+use Rattle.reach.specs.Steps.{Route, home, along, over, Sorted, DistancesFrom}
+use Rattle.reach.proofs.Rows.{open-ranged}
 
-step-one : (guard : Guard) → stepCost guard ≡ 1
-step-one (Guard.differ index) = refl
-step-one (Guard.isTrue m) = refl
-step-one (Guard.isFalse m) = refl
+-- what one edge more costs
+costs-on : (walked : List Edge) (edge : Edge) → costs stepCost (walked ++ (edge ∷ [])) ≡ costs stepCost walked + stepCost (edge .guard)
+costs-on [] edge = omega arith
+costs-on (first ∷ walked) edge = omega (arith, costs-on walked edge)
 
-costs-length : (walked : List Edge) → costs stepCost walked ≡ length walked
-costs-length [] = refl
-costs-length (edge ∷ walked) = omega (arith, step-one (edge .guard), costs-length walked)
+write-cost : (guard : Guard) (is : Bool) → isWrite guard ≡ is → stepCost guard ≡ cond is 49 1
+write-cost guard is same = ap (λ (b : Bool). cond b 49 1) same
 
-module _ (e : Edges) (n x : ℕ) (ends : Ends e n) {words : List ℕ} (known : Adjacent (e x) words) where
+module _ (e : Edges) (n x : ℕ) (ends : Ends e n) {cheap writes : List ℕ} (known : Sorted (e x) cheap writes) where
+  -- a way over the words is a walk of the same cost
+  one-on : {origin a b cost more : ℕ} → ((walked : List Edge) × Walk (e x) origin walked a × (costs stepCost walked ≡ cost)) → (edge : Edge) → edge ∈ e x → Joins edge a b → stepCost (edge .guard) ≡ more
+      → (walked : List Edge) × Walk (e x) origin walked b × (costs stepCost walked ≡ cost + more)
+  one-on (walked, way, total) edge here joined last = (walked ++ (edge ∷ []), walk-on way here joined, omega (arith, costs-on walked edge, total, last))
+
+  route-walk : {origin cost a : ℕ} → Route cheap writes origin cost a → (walked : List Edge) × Walk (e x) origin walked a × (costs stepCost walked ≡ cost)
+  route-walk home = ([], stay, refl)
+  route-walk (along {a = a} {b = b} to next) =
+      let last = known .0 .sound a b next in
+      let kept = keep-in (λ edge. not (isWrite (edge .guard))) (e x) (last .1) in
+      one-on (route-walk to) (last .0) (kept .0) (last .2) (write-cost (last .0 .guard) false (not-true (isWrite (last .0 .guard)) (kept .1)))
+    where
+      not-true : (b : Bool) → not b ≡ true → b ≡ false
+      not-true true is = absurd (false≢true is)
+      not-true false is = refl
+  route-walk (over {a = a} {b = b} to next) =
+      let last = known .1 .sound a b next in
+      let kept = keep-in (λ edge. isWrite (edge .guard)) (e x) (last .1) in
+      one-on (route-walk to) (last .0) (kept .0) (last .2) (write-cost (last .0 .guard) true (kept .1))
+
   -- a walk goes on a way
-  walk-way : {origin steps a c : ℕ} {walked : List Edge} → Trail words origin steps a → Walk (e x) a walked c → Trail words origin (steps + length walked) c
-  walk-way {origin} {steps} {a} way stay =
-      let same : steps ≡ steps + 0 = omega arith in
-      subst (λ (k : ℕ). Trail words origin k a) same way
-  walk-way {origin} {steps} {c = c} way (step {a} {b} {edge = edge} {walked = walked} first joined rest) =
-      let same : steps + 1 + length walked ≡ steps + suc (length walked) = omega arith in
-      subst (λ (k : ℕ). Trail words origin k c) same (walk-way (onward way (known .complete a b (edge, first, joined))) rest)
+  step-route : {origin cost a b : ℕ} → Route cheap writes origin cost a → (edge : Edge) → edge ∈ e x → Joins edge a b → Route cheap writes origin (cost + stepCost (edge .guard)) b
+  step-route {origin} {cost} {a} {b} to edge here joined = go (isWrite (edge .guard)) refl
+    where
+      at : (more : ℕ) → stepCost (edge .guard) ≡ more → Route cheap writes origin (cost + more) b → Route cheap writes origin (cost + stepCost (edge .guard)) b
+      at more same way = subst (λ (k : ℕ). Route cheap writes origin (cost + k) b) (sym same) way
 
-  walk-from : {a b : ℕ} {walked : List Edge} → Walk (e x) a walked b → Trail words a (length walked) b
+      go : (is : Bool) → isWrite (edge .guard) ≡ is → Route cheap writes origin (cost + stepCost (edge .guard)) b
+      go true is = at 49 (write-cost (edge .guard) true is) (over to (known .1 .complete a b (edge, keep-has (λ other. isWrite (other .guard)) (e x) here is, joined)))
+      go false is = at 1 (write-cost (edge .guard) false is) (along to (known .0 .complete a b (edge, keep-has (λ other. not (isWrite (other .guard))) (e x) here (ap not is), joined)))
+
+  walk-route : {origin cost a c : ℕ} {walked : List Edge} → Route cheap writes origin cost a → Walk (e x) a walked c → Route cheap writes origin (cost + costs stepCost walked) c
+  walk-route {origin} {cost} {a} to stay =
+      let same : cost ≡ cost + 0 = omega arith in
+      subst (λ (k : ℕ). Route cheap writes origin k a) same to
+  walk-route {origin} {cost} {c = c} to (step {a} {b} {edge = edge} {walked = walked} first joined rest) =
+      let same : cost + stepCost (edge .guard) + costs stepCost walked ≡ cost + (stepCost (edge .guard) + costs stepCost walked) = omega arith in
+      subst (λ (k : ℕ). Route cheap writes origin k c) same (walk-route (step-route to edge first joined) rest)
+
+  walk-from : {a b : ℕ} {walked : List Edge} → Walk (e x) a walked b → Route cheap writes a (costs stepCost walked) b
   walk-from {a} {b} {walked} way =
-      let same : 0 + length walked ≡ length walked = omega arith in
-      subst (λ (k : ℕ). Trail words a k b) same (walk-way here way)
+      let same : 0 + costs stepCost walked ≡ costs stepCost walked = omega arith in
+      subst (λ (k : ℕ). Route cheap writes a k b) same (walk-route home way)
 
-  -- The hop counts are the paper's distances
-  pub hop-is : (a b : ℕ) (hops : List ℕ) → a < n → b < n → Hops words a hops → getD hops b 0 ≡ hopOf (getD (near stepCost (e x) n b n) a none)
-  hop-is a b hops a-in b-in right = go (ℕ-discrete (getD hops b 0) 255)
+  -- The least costs of ways are the paper's distances
+  pub distance-is : (a b : ℕ) (row : List ℕ) → a < n → b < n → DistancesFrom cheap writes a row → getD row b 0 ≡ entryOf (getD (near stepCost (e x) n b n) a none)
+  distance-is a b row a-in b-in right = go (ℕ-discrete (getD row b 0) 255)
     where
       b-few : b < 48
       b-few = omega (arith, ends .arrays)
@@ -50,34 +83,27 @@ module _ (e : Edges) (n x : ℕ) (ends : Ends e n) {words : List ℕ} (known : A
       entry : Option ℕ
       entry = getD (near stepCost (e x) n b n) a none
 
-      nothing : getD hops b 0 ≡ 255 → (there : Option ℕ) → entry ≡ there → 255 ≡ hopOf there
+      nothing : getD row b 0 ≡ 255 → (there : Option ℕ) → entry ≡ there → 255 ≡ entryOf there
       nothing uncounted none is = refl
-      nothing uncounted (some d) is = absurd (right .none b b-few uncounted (length (walk .0)) (walk-from (walk .1)))
+      nothing uncounted (some d) is = absurd (right .none b b-few uncounted (costs stepCost (walk .0)) (walk-from (walk .1)))
         where
           walk : (walked : List Edge) × Walk (e x) a walked b × (costs stepCost walked ≡ d)
           walk = entry-walk stepCost (e x) n b n is
 
-      go : Dec (getD hops b 0 ≡ 255) → getD hops b 0 ≡ hopOf entry
+      go : Dec (getD row b 0 ≡ 255) → getD row b 0 ≡ entryOf entry
       go (yes uncounted) = uncounted ∙ nothing uncounted entry refl
-      go (no counted) = sym (ap hopOf (least-is-entry stepCost (e x) n b (open-ranged e n x ends) a-in known-least))
-        where
-          found : (walked : List Edge) × Walk (e x) a walked b × (length walked ≡ getD hops b 0)
-          found = way-walk e n x ends words known (right .way b b-few counted)
+      go (no counted) =
+          let (distance, to, least, is) = right .some b b-few counted in
+          let (walked, way, total) = route-walk to in
+          is
+          ∙ sym (ap entryOf (least-is-entry stepCost (e x) n b (open-ranged e n x ends) a-in
+          (record { walked = walked; way = way; total = total; least = λ other there. least (costs stepCost other) (walk-from there) })))
 
-          known-least : Least stepCost (e x) b a (getD hops b 0)
-          known-least =
-              record {
-                walked = found .0;
-                way = found .1;
-                total = costs-length (found .0) ∙ found .2;
-                least = λ other way. omega (arith, costs-length other, right .least b b-few counted (length other) (walk-from way));
-              }
-
--- the hop counts of one array term more
-pub hops-put : {words : List ℕ} (table : List (List ℕ)) (a : ℕ) (hops : List ℕ) → a < length table → Hops words a hops → ((j : ℕ) → j < a → Hops words j (getD table j []))
-    → (j : ℕ) → j < a + 1 → Hops words j (getD (set table a hops) j [])
-hops-put {words} table a hops inside right before j below = go (ℕ-discrete j a)
+-- the distances of one array term more
+pub distances-put : {cheap writes : List ℕ} (table : List (List ℕ)) (a : ℕ) (row : List ℕ) → a < length table → DistancesFrom cheap writes a row → ((j : ℕ) → j < a → DistancesFrom cheap writes j (getD table j []))
+    → (j : ℕ) → j < a + 1 → DistancesFrom cheap writes j (getD (set table a row) j [])
+distances-put {cheap} {writes} table a row inside right before j below = go (ℕ-discrete j a)
   where
-    go : Dec (j ≡ a) → Hops words j (getD (set table a hops) j [])
-    go (yes same) = subst (λ (i : ℕ). Hops words i (getD (set table a hops) i [])) (sym same) (rw (getD-set-same table a hops [] inside) right)
-    go (no other) = rw (getD-set-other table a j hops [] other) (before j (omega (arith, other)))
+    go : Dec (j ≡ a) → DistancesFrom cheap writes j (getD (set table a row) j [])
+    go (yes same) = subst (λ (i : ℕ). DistancesFrom cheap writes i (getD (set table a row) i [])) (sym same) (rw (getD-set-same table a row [] inside) right)
+    go (no other) = rw (getD-set-other table a j row [] other) (before j (omega (arith, other)))

@@ -10,5 +10,6 @@ pub mod Parts
 pub mod Values
 pub mod Links
 pub mod Levels
+pub mod Sorting
 pub mod Counted
 pub mod Paper

@@ -1,4 +1,4 @@
--- The tables of an accepted query can be lent to `mark`, `hops` and `reached_from`, and what these answer is the paper's: which array terms each source reaches, the number of pairs,
+-- The tables of an accepted query can be lent to `mark`, `distances` and `reached_from`, and what these answer is the paper's: which array terms each source reaches, the number of pairs,
 -- the distances.
 -- Assumes nothing.
 use Prim.Native.Nat.{ℕ, zero, suc, _+_, _/_, _%_, _<_, _≤_}

@@ -8,7 +8,7 @@ use mathlib.Core.Bool.{Bool, true, false, cond, false≢true}
 use mathlib.Core.List.{List, [], _∷_, _++_}
 use borrow.Author.Tests.{ne-eqb}
 use lib.Dec.{eqb}
-use lib.ListN.{length, getD, length-append}
+use lib.ListN.{getD}
 use Rattle.paper.specs.Lists.{count, range}
 use Rattle.paper.specs.Edges.{Edge}
 use Rattle.paper.specs.Reach.{Walk, stay, step, stepCost}
@@ -51,13 +51,13 @@ module _ (e : Edges) (n x : ℕ) (ends : Ends e n) where
   reached-same a b a-in b-in = same-test (reachedIn e n x a b) (reachedIn e n x b a) (reached-back a b a-in) (reached-back b a b-in)
 
   module _ (words : List ℕ) (known : Adjacent (e x) words) where
-    -- a way over the words is a walk of as many steps, and what has the origin and is closed has all that a walk comes to
-    pub way-walk : {origin steps a : ℕ} → Trail words origin steps a → (walked : List Edge) × Walk (e x) origin walked a × (length walked ≡ steps)
-    way-walk here = ([], stay, refl)
+    -- a way over the words is a walk, and what has the origin and is closed has all that a walk comes to
+    way-walk : {origin steps a : ℕ} → Trail words origin steps a → (walked : List Edge) × Walk (e x) origin walked a
+    way-walk here = ([], stay)
     way-walk (onward {a = a} {b = b} way next) =
         let before = way-walk way in
         let last = known .sound a b next in
-        (before .0 ++ (last .0 ∷ []), walk-on (before .1) (last .1) (last .2), omega (arith, length-append (before .0) (last .0 ∷ []), before .2))
+        (before .0 ++ (last .0 ∷ []), walk-on (before .1) (last .1) (last .2))
 
     walk-closed : (row : ℕ) {a c : ℕ} {walked : List Edge} → ((a b : ℕ) → bit row a ≡ 1 → bit (getD words a 0) b ≡ 1 → bit row b ≡ 1)
         → Walk (e x) a walked c → bit row a ≡ 1 → bit row c ≡ 1
@@ -67,9 +67,7 @@ module _ (e : Edges) (n x : ℕ) (ends : Ends e n) where
 
     module _ (origin : ℕ) (inside : origin < n) (made : Spread) (spreads : Spreads words origin made) where
       marked-walk : (a : ℕ) → bit (made .row) a ≡ 1 → (walked : List Edge) × Walk (e x) origin walked a
-      marked-walk a is =
-          let found = way-walk (spreads .sound a is .1) in
-          (found .0, found .1)
+      marked-walk a is = way-walk (spreads .sound a is .1)
 
       marked-inside : (a : ℕ) → bit (made .row) a ≡ 1 → a < n
       marked-inside a is = walk-below open-ranged inside (marked-walk a is .1)

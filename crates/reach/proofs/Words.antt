@@ -128,7 +128,7 @@ module _ {edges : List Edge} {words : List ℕ} (known : Adjacent edges words) w
       complete a b joined (inr new) = edge-here edge words (known .long) left-in right-in a b (subst (λ (e : Edge). Joins e a b) (List·Memᴰ·eq-of-singleton new) (joined .2))
 
 -- before the first edge there is nothing
-getD-zero : (n a : ℕ) → _≡_ {A = ℕ} (getD (replicate n 0) a 0) 0
+pub getD-zero : (n a : ℕ) → _≡_ {A = ℕ} (getD (replicate n 0) a 0) 0
 getD-zero zero a = refl
 getD-zero (suc n) zero = refl
 getD-zero (suc n) (suc a) = getD-zero n a
@@ -180,6 +180,10 @@ module _ (way : Way) where
   pub way-edge : way .open ≡ true → wayEdges way ≡ record { left = way .left; right = way .right; guard = guardOf (way .tag) (way .number) } ∷ []
   way-edge lies-open = ap (λ (b : Bool). cond b (record { left = way .left; right = way .right; guard = guardOf (way .tag) (way .number) } ∷ []) []) lies-open
 
+-- the ends of a way that is open are array terms
+pub way-ends : (values truths : List ℕ) (x row : ℕ) (way : Way) → wayEdges way ≡ openIn values truths x row → way .open ≡ true → Each (EndsBelow 48) (edgesIn row) → (way .left < 48) × (way .right < 48)
+way-ends values truths x row way is lies-open ends = subst (Each (EndsBelow 48)) (sym is ∙ way-edge way lies-open) (open-each (EndsBelow 48) values truths x row ends) .0
+
 -- one turn: what the row's way says is put, or nothing is
 module _ (values truths : List ℕ) (x : ℕ) (rows : List ℕ) (k : ℕ) (words : List ℕ)
     (known : Adjacent (concatMap (openIn values truths x) (take k rows)) words) (inside : k < length rows) (way : Way) (is : wayEdges way ≡ openIn values truths x (getD rows k 0)) where
@@ -191,11 +195,11 @@ module _ (values truths : List ℕ) (x : ℕ) (rows : List ℕ) (k : ℕ) (words
   way-shut shut = more [] (way-none way shut) (none-more known)
 
   module _ (lies-open : way .open ≡ true) (ends : Each (EndsBelow 48) (edgesIn (getD rows k 0))) where
-    pub way-ends : (way .left < 48) × (way .right < 48)
-    way-ends = subst (Each (EndsBelow 48)) (sym is ∙ way-edge way lies-open) (open-each (EndsBelow 48) values truths x (getD rows k 0) ends) .0
-
     pub way-open : Adjacent (concatMap (openIn values truths x) (take (k + 1) rows)) (withEdge (way .left) (way .right) words)
-    way-open = more (record { left = way .left; right = way .right; guard = guardOf (way .tag) (way .number) } ∷ []) (way-edge way lies-open) (one-more known (record { left = way .left; right = way .right; guard = guardOf (way .tag) (way .number) }) (way-ends .0) (way-ends .1))
+    way-open =
+        let edge : Edge = record { left = way .left; right = way .right; guard = guardOf (way .tag) (way .number) } in
+        let inside-ends = way-ends values truths x (getD rows k 0) way is lies-open ends in
+        more (edge ∷ []) (way-edge way lies-open) (one-more known edge (inside-ends .0) (inside-ends .1))
 
 -- what holds of each of a list holds of whatever is in it
 pub in-each : {A : Type 0} (P : A → Type 0) (xs : List A) {x : A} → Each P xs → x ∈ xs → P x

@@ -1,4 +1,4 @@
--- 01, Sources, edges, reach, over the open edges and the sources that the lent rows say: what a row, a pair count, a link and a hop count are to be.
+-- 01, Sources, edges, reach, over the open edges and the sources that the lent rows say: what a row, a pair count, a link and a distance are to be.
 -- Assumes nothing.
 use Prim.Native.Nat.{ℕ, _+_, _*_, _/_, _%_, _^_, _<_, _≤_}
 use mathlib.Core.Path.{_≡_}
@@ -98,11 +98,11 @@ pub record Marked (e : Edges) (s : Sources) (n : ℕ) (words links : List ℕ) (
   pub rows : (k : ℕ) → k < s .count → RowOf e n (valueAt s k) (originAt s k) (getD words k 0)
   pub next : (k : ℕ) → k < s .count → NextOf s k (getD links k 0)
 
--- a distance as the hop counts hold it: 255 where there is no walk
-abbrev pub hopOf : Option ℕ → ℕ
-hopOf none = 255
-hopOf (some distance) = distance
+-- a distance as the table holds it, by its last seven bits; 255 where there is no walk
+abbrev pub entryOf : Option ℕ → ℕ
+entryOf none = 255
+entryOf (some distance) = distance % 128
 
--- The hop counts of an index value: at a and b, the least number of steps of a walk from a to b
-abbrev pub HopCounts : Edges → (x n : ℕ) (counts : List (List ℕ)) → Type 0
-HopCounts e x n counts = (a b : ℕ) → a < n → b < n → getD (getD counts a []) b 0 ≡ hopOf (getD (near stepCost (e x) n b n) a none)
+-- The distances of an index value: at a and b, the least cost of a walk from a to b
+abbrev pub Distances : Edges → (x n : ℕ) (table : List (List ℕ)) → Type 0
+Distances e x n table = (a b : ℕ) → a < n → b < n → getD (getD table a []) b 0 ≡ entryOf (getD (near stepCost (e x) n b n) a none)

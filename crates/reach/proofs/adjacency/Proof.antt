@@ -6,7 +6,7 @@ use mathlib.Core.Path.{_≡_, sym, _∙_, subst}
 use mathlib.Core.Logic.{⊎-elim}
 use mathlib.Core.List.{[]}
 use borrow.Author.Needs.{needs}
-use lib.ListN.{length, take}
+use lib.ListN.{length, getD, take}
 use Rattle.paper.specs.Lists.{concatMap}
 use Rattle.terms.specs.Graph.{openIn}
 use Rattle.reach.specs.Steps.{Adjacent}
@@ -43,7 +43,7 @@ set-edge-requires c κs =
     let i = o .before .before in
     let h = i .before .loop in
     let s = i .before .before in
-    way-ends (s .args .values .now) (s .args .truths .now) (s .args .x) (s .args .edges .now) (h .k) (h .words) (h .inv .1) (inside i) (o .open-way .result) (o .open-way .ensures) (c .before .if1 .taken) (s .pre .0 .ends (h .k) (i .loop-test .taken))
+    way-ends (s .args .values .now) (s .args .truths .now) (s .args .x) (getD (s .args .edges .now) (h .k) 0) (o .open-way .result) (o .open-way .ensures) (c .before .if1 .taken) (s .pre .0 .ends (h .k) (i .loop-test .taken))
 
 add-k : tie.Need-add-k Inv-loop μ-loop
 add-k c = omega (arith, c .before .before .before .before .before .pre .0 .few)

@@ -7,7 +7,7 @@ use mathlib.Core.Path.{_≡_, sym, _∙_, subst}
 use mathlib.Core.Logic.{⊎-elim}
 use mathlib.Core.List.{List, []}
 use borrow.Author.Needs.{needs}
-use lib.ListN.{length}
+use lib.ListN.{length, getD}
 use Rattle.reach.specs.Steps.{Adjacent, Gathered}
 use Rattle.reach.proofs.Words.{no-edges, way-ends}
 use Rattle.reach.proofs.Turns.{gathered-shut, gathered-open}
@@ -30,7 +30,7 @@ ends c =
     let i = o .before .before in
     let h = i .before .loop in
     let s = i .before .before in
-    way-ends [] (s .args .truths .now) 1 (s .args .edges .now) (h .k) (h .words) (h .inv .2 .adjacent) (inside i) (o .way-of .result) (o .way-of .ensures) (c .if1 .taken) (s .pre .0 .ends (h .k) (i .loop-test .taken))
+    way-ends [] (s .args .truths .now) 1 (getD (s .args .edges .now) (h .k) 0) (o .way-of .result) (o .way-of .ensures) (c .if1 .taken) (s .pre .0 .ends (h .k) (i .loop-test .taken))
 
 -- the same of what is equal
 gathered-same : {truths rows : List ℕ} (k : ℕ) {words words′ : List ℕ} {again again′ : ℕ} → words′ ≡ words → again′ ≡ again → Gathered truths rows k words again → Gathered truths rows k words′ again′

@@ -1,5 +1,5 @@
--- `lemma::between::path_between` meets its contract: from the goal itself the path has no step, and from elsewhere it is the shortest path by the hop
--- counts. Assumes nothing.
+-- `lemma::between::path_between` meets its contract: from the goal itself the path has no step, and from elsewhere it is found by the
+-- table of distances. Assumes nothing.
 use borrow.Author.Needs.{needs}
 use Rattle.lemma.proofs.Opened.{asked, at-home}
 use Rattle.lemma.proofs.between.path_between.Statement.{statement}
@@ -11,19 +11,19 @@ returns c =
     let pre = c .before .pre in
     at-home (args .values .now) (args .truths .now) (args .edges .now) (args .ways) (args .arrays) (pre .lent) (args .x) (args .from) (args .goal) (pre .from-in) (pre .reached) (args .path .now) (pre .room) (c .if1 .taken)
 
-hops-requires : tie.Need-hops-requires
-hops-requires c κs = search needs
+distances-requires : tie.Need-distances-requires
+distances-requires c κs = search needs
 
-shortest-path-requires : tie.Need-shortest-path-requires
-shortest-path-requires c κs =
-    let hops = c .before .before .hops in
+least-path-requires : tie.Need-least-path-requires
+least-path-requires c κs =
+    let distances = c .before .before .distances in
     let start = c .before .before .before .before in
     let args = start .args in
     let pre = start .pre in
-    (asked (args .values .now) (args .truths .now) (args .edges .now) (args .ways) (args .arrays) (pre .lent) (args .x) (args .from) (args .goal) (pre .from-in) (pre .reached) (hops .result) (pre .goal-in) (hops .ensures), pre .room)
+    (asked (args .values .now) (args .truths .now) (args .edges .now) (args .ways) (args .arrays) (pre .lent) (args .x) (args .from) (args .goal) (pre .from-in) (pre .reached) (distances .result) (pre .goal-in) (distances .ensures), pre .room)
 
 returns-2 : tie.Need-returns-2
 returns-2 c = search needs
 
 pub path-between-spec : {M : Type 1} → statement M
-path-between-spec = tie.close (tie.spec returns hops-requires shortest-path-requires returns-2)
+path-between-spec = tie.close (tie.spec returns distances-requires least-path-requires returns-2)

@@ -10,19 +10,19 @@ use Rattle.lemma.proofs.paths.nearer_edge.Statement.{statement}
 use Rattle.lemma.proofs.paths.nearer_edge.Tie as tie
 
 abbrev Inv-loop : tie.InvT-loop
-Inv-loop values truths edges count hops x a goal k₀ k =
+Inv-loop values truths edges count distances x a goal k₀ k =
     let all = tableOf values truths edges count in
-    (k ≤ count) × (nearerEdge all hops x a goal ≡ firstFrom (nearerBy all hops x a goal) count k)
+    (k ≤ count) × (nearerEdge all distances x a goal ≡ firstFrom (nearerBy all distances x a goal) count k)
 
 abbrev μ-loop : tie.MeasureT-loop
-μ-loop values truths edges count hops x a goal k₀ k = count - k
+μ-loop values truths edges count distances x a goal k₀ k = count - k
 
 -- the edges that are lent, and the test of each
 abbrev lent-to : tie.Start Inv-loop μ-loop → EdgeTable
 lent-to s = tableOf (s .args .values .now) (s .args .truths .now) (s .args .edges .now) (s .args .count)
 
 abbrev nearer : tie.Start Inv-loop μ-loop → ℕ → Bool
-nearer s = nearerBy (lent-to s) (s .args .hops .now) (s .args .x) (s .args .a) (s .args .goal)
+nearer s = nearerBy (lent-to s) (s .args .distances .now) (s .args .x) (s .args .a) (s .args .goal)
 
 loop-holds : tie.Need-loop-holds Inv-loop μ-loop
 unfolding nearerEdge

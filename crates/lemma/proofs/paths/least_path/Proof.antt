@@ -1,4 +1,4 @@
--- `lemma::paths::shortest_path` meets its contract. The invariant, `Walking`: the edges walked so far, with the path from where we are, are the
+-- `lemma::paths::least_path` meets its contract. The invariant, `Walking`: the edges walked so far, with the path from where we are, are the
 -- whole path, and the distance that is left falls with each step. Assumes nothing.
 use Prim.Native.Nat.{_-_, _<_}
 use native.Mathlib.Omega.{arith}
@@ -7,14 +7,14 @@ use mathlib.Core.Bool.{true}
 use Rattle.lemma.specs.Steps.{EdgeTable, tableOf, openAt}
 use Rattle.lemma.proofs.Stepping.{Walking, ends-most, walking-start, walking-in, walking-on, walking-end, chosen-in, chosen-open}
 use Rattle.lemma.proofs.Ways.{way-open, way-other}
-use Rattle.lemma.proofs.paths.shortest_path.Statement.{statement}
-use Rattle.lemma.proofs.paths.shortest_path.Tie as tie
+use Rattle.lemma.proofs.paths.least_path.Statement.{statement}
+use Rattle.lemma.proofs.paths.least_path.Tie as tie
 
 abbrev Inv-loop : tie.InvT-loop
-Inv-loop values truths edges ways hops x arrays from goal path₀ steps₀ a₀ path steps a = Walking (tableOf values truths edges ways) x arrays goal from a steps path
+Inv-loop values truths edges ways distances x arrays from goal path₀ steps₀ a₀ path steps a = Walking (tableOf values truths edges ways) x arrays goal from a steps path
 
 abbrev μ-loop : tie.MeasureT-loop
-μ-loop values truths edges ways hops x arrays from goal path₀ steps₀ a₀ path steps a = arrays - steps
+μ-loop values truths edges ways distances x arrays from goal path₀ steps₀ a₀ path steps a = arrays - steps
 
 abbrev lent-to : tie.Start Inv-loop μ-loop → EdgeTable
 lent-to s = tableOf (s .args .values .now) (s .args .truths .now) (s .args .edges .now) (s .args .ways)
@@ -43,7 +43,7 @@ numbered c =
     let args = s .args in
     let pre = s .pre .0 in
     rw (c .nearer-edge .ensures)
-    (chosen-in (lent-to s) (args .x) (args .arrays) (args .goal) (pre .ends) (args .hops .now) (pre .hops-are) (pre .goal-in) (args .from) (at .loop .a) (at .loop .steps) (at .loop .path) (pre .ends .arrays) (c .before .loop-test .taken) (at .loop .inv))
+    (chosen-in (lent-to s) (args .x) (args .arrays) (args .goal) (pre .ends) (args .distances .now) (pre .distances-are) (pre .goal-in) (args .from) (at .loop .a) (at .loop .steps) (at .loop .path) (pre .ends .arrays) (c .before .loop-test .taken) (at .loop .inv))
 
 taken-open : (c : tie.After-nearer-edge Inv-loop μ-loop) → openAt (lent-to (c .before .before .before)) (c .before .before .before .args .x) (c .nearer-edge .result) ≡ true
 taken-open c =
@@ -52,7 +52,7 @@ taken-open c =
     let args = s .args in
     let pre = s .pre .0 in
     rw (c .nearer-edge .ensures)
-    (chosen-open (lent-to s) (args .x) (args .arrays) (args .goal) (pre .ends) (args .hops .now) (pre .hops-are) (pre .goal-in) (args .from) (at .loop .a) (at .loop .steps) (at .loop .path) (pre .ends .arrays) (c .before .loop-test .taken) (at .loop .inv))
+    (chosen-open (lent-to s) (args .x) (args .arrays) (args .goal) (pre .ends) (args .distances .now) (pre .distances-are) (pre .goal-in) (args .from) (at .loop .a) (at .loop .steps) (at .loop .path) (pre .ends .arrays) (c .before .loop-test .taken) (at .loop .inv))
 
 cast-path : tie.Need-cast-path Inv-loop μ-loop
 cast-path c = omega (arith, numbered c, c .before .before .before .pre .0 .ends .edges)
@@ -90,7 +90,7 @@ loop-again c =
     let is = c .before .open-way .ensures in
     let other = way-other (lent-to s) (args .x) k way is (way-open (lent-to s) (args .x) k way is ∙ taken-open chosen) (at .loop .a) in
     rw (c .other-end .ensures ∙ other, chosen .nearer-edge .ensures)
-    (walking-on (lent-to s) (args .x) (args .arrays) (args .goal) (pre .ends) (args .hops .now) (pre .hops-are) (pre .goal-in) (args .from) (at .loop .a) (at .loop .steps) (at .loop .path) (pre .ends .arrays) (chosen .before .loop-test .taken) (at .loop .inv))
+    (walking-on (lent-to s) (args .x) (args .arrays) (args .goal) (pre .ends) (args .distances .now) (pre .distances-are) (pre .goal-in) (args .from) (at .loop .a) (at .loop .steps) (at .loop .path) (pre .ends .arrays) (chosen .before .loop-test .taken) (at .loop .inv))
 
 returns : tie.Need-returns Inv-loop μ-loop
 returns c =
@@ -100,8 +100,8 @@ returns c =
     let pre = s .pre .0 in
     walking-end (lent-to s) (args .x) (args .arrays) (args .goal) (pre .ends) (args .from) (at .loop .a) (at .loop .steps) (at .loop .path) (c .loop-test .left) (at .loop .inv)
 
-pub shortest-path-spec : {M : Type 1} → statement M
-shortest-path-spec =
+pub least-path-spec : {M : Type 1} → statement M
+least-path-spec =
     tie.close
     (tie.spec
     Inv-loop
