@@ -1,8 +1,9 @@
-//! The lemma of a query in conflict: the least pair, the lexicographically
-//! least shortest path between its origins, and the literals along it.
+//! The lemma of a query in conflict: the least pair, the path between its
+//! origins, and the literals along it.
 
+use crate::layers::Layers;
 use crate::query::{Edge, Guard, Query};
-use crate::reach::{neighbours, step, Reach};
+use crate::reach::Reach;
 
 /// One literal; the numbers are those of base terms or of a Boolean.
 #[derive(Clone, Copy, PartialEq, Eq)]
@@ -45,44 +46,36 @@ pub fn least_pair(query: &Query, reach: &Reach) -> Option<(usize, usize)> {
     })
 }
 
-/// The path's edges. Layer k holds the arrays exactly k steps from the goal,
-/// so a step is one nearer exactly if it leads into the layer below.
+/// The path's edges (02, E6).
 fn path(query: &Query, index_value: u32, start: usize, goal: usize) -> Vec<&Edge> {
-    let mut layers = layers_until(query, index_value, start, goal);
-    layers.pop();
+    let layers = Layers::until(query, index_value, start, goal);
     let mut place = start;
     let mut edges = Vec::new();
-    while let Some(nearer) = layers.pop() {
-        let (edge, next) = lowest_edge_into(query, index_value, place, nearer);
+    while place != goal {
+        let (edge, next) = lowest_edge(query, index_value, place, &layers);
         edges.push(edge);
         place = next;
     }
     edges
 }
 
-/// The layers around the goal, up to the one that holds the start.
-fn layers_until(query: &Query, index_value: u32, start: usize, goal: usize) -> Vec<u64> {
-    let neighbours = neighbours(query, index_value);
-    let mut seen: u64 = 1 << goal;
-    let mut layers = vec![seen];
-    while seen >> start & 1 == 0 {
-        let layer = step(&neighbours, seen) & !seen;
-        assert!(layer != 0, "the pair's origins are in one component");
-        layers.push(layer);
-        seen |= layer;
-    }
-    layers
-}
-
-fn lowest_edge_into(query: &Query, index_value: u32, place: usize, into: u64) -> (&Edge, usize) {
+/// "at each step the lowest-numbered open edge that lies on such a path", and
+/// where it leads.
+fn lowest_edge<'a>(
+    query: &'a Query,
+    index_value: u32,
+    place: usize,
+    layers: &Layers,
+) -> (&'a Edge, usize) {
     for edge in query.edges.iter().filter(|edge| query.is_open(edge, index_value)) {
+        let nearer = layers.nearer(place, edge.is_write());
         for (near, far) in [(0, 1), (1, 0)] {
-            if edge.ends[near] == place && into >> edge.ends[far] & 1 == 1 {
+            if edge.ends[near] == place && nearer >> edge.ends[far] & 1 == 1 {
                 return (edge, edge.ends[far]);
             }
         }
     }
-    unreachable!("an array of a layer has a neighbour in the layer below");
+    unreachable!("an array other than the goal has a neighbour in a layer before its own");
 }
 
 /// The literal that an edge leaves on the path of a source with this index.

@@ -41,6 +41,12 @@ pub struct Edge {
     pub guard: Guard,
 }
 
+impl Edge {
+    pub fn is_write(&self) -> bool {
+        matches!(self.guard, Guard::Write(_))
+    }
+}
+
 #[derive(Default)]
 pub struct Query {
     pub arrays: usize,

@@ -1,7 +1,7 @@
 //! Which arrays a source reaches. For each index value the open edges split
 //! the arrays into components; a component is a word with a bit per array.
 
-use crate::query::{Query, MAX_ARRAYS};
+use crate::query::{Edge, Query, MAX_ARRAYS};
 use std::collections::BTreeMap;
 
 /// For each array, a set of arrays.
@@ -17,9 +17,10 @@ impl Reach {
         let mut components = BTreeMap::new();
         for source in &query.sources {
             let value = query.value(source.index);
+            let open = |edge: &Edge| query.is_open(edge, value);
             components
                 .entry(value)
-                .or_insert_with(|| split(&neighbours(query, value), query.arrays));
+                .or_insert_with(|| split(&neighbours(query, open), query.arrays));
         }
         Reach { components }
     }
@@ -56,10 +57,10 @@ impl Reach {
     }
 }
 
-/// For each array, the arrays one step away over edges open to the value.
-pub fn neighbours(query: &Query, index_value: u32) -> Sets {
+/// For each array, the arrays one step away over the edges that are walked.
+pub fn neighbours(query: &Query, walked: impl Fn(&Edge) -> bool) -> Sets {
     let mut sets = [0; MAX_ARRAYS];
-    for edge in query.edges.iter().filter(|edge| query.is_open(edge, index_value)) {
+    for edge in query.edges.iter().filter(|edge| walked(edge)) {
         let [one, other] = edge.ends;
         sets[one] |= 1 << other;
         sets[other] |= 1 << one;
