@@ -95,7 +95,7 @@ fn judge_conflict(fields: &[Field], width: u32, query: &[u8], lemma: &Lemma) -> 
     if lemma.holds(&guess) {
         return Err("the lemma does not fail under the guess".to_string());
     }
-    if Walks::of(fields, width).chosen() != Some((lemma.premise.clone(), lemma.conclusion)) {
+    if Walks::of(fields, width).chosen().as_ref() != Some(lemma) {
         return Err("another lemma was to be chosen".to_string());
     }
     let written = second::clauses_at_width(query, MAX_CLAUSE_NUMBERS, width)

@@ -11,6 +11,7 @@ pub enum Literal {
     False(u16),
 }
 
+#[derive(Debug, PartialEq, Eq)]
 pub struct Lemma {
     pub premise: Vec<Literal>,
     pub conclusion: (u16, u16),

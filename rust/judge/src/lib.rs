@@ -4,9 +4,10 @@
 mod clauses;
 pub mod every;
 pub mod field;
+pub mod graph;
 pub mod interpretation;
 mod judgement;
-mod lemma;
+pub mod lemma;
 pub mod random;
 mod satisfy;
 pub mod tiny;
