@@ -12,5 +12,6 @@ pub mod random;
 mod satisfy;
 pub mod tiny;
 mod walks;
+pub mod ways;
 
 pub use judgement::{judge, Verdict};

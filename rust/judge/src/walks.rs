@@ -12,12 +12,22 @@ impl Walks {
         Walks(Graph::of(fields, width))
     }
 
-    /// The least, by length and then by edge numbers, of the walks between
-    /// two arrays that repeat no array.
+    /// Of all walks between two arrays that with the fewest write edges, among
+    /// those the fewest edges, and then the least edge numbers (02, E6).
     fn least_walk(&self, index_value: u32, from: u16, to: u16) -> Option<Vec<usize>> {
+        let walks = self.all(index_value, from, to).into_iter();
+        walks.min_by_key(|walk| (self.writes(walk), walk.len(), walk.clone()))
+    }
+
+    fn writes(&self, walk: &[usize]) -> usize {
+        walk.iter().filter(|number| self.0.edges[**number].is_write()).count()
+    }
+
+    /// All walks between two arrays that repeat no array, by edge numbers.
+    fn all(&self, index_value: u32, from: u16, to: u16) -> Vec<Vec<usize>> {
         let mut found = Vec::new();
         self.list(index_value, &mut vec![from], to, &mut vec![], &mut found);
-        found.into_iter().min_by_key(|walk| (walk.len(), walk.clone()))
+        found
     }
 
     fn list(
@@ -86,5 +96,53 @@ impl Walks {
         index_value == self.0.base(later.index)
             && self.0.base(first.value) != self.0.base(later.value)
             && self.least_walk(index_value, first.origin, later.origin).is_some()
+    }
+}
+
+#[cfg(test)]
+mod tests {
+    use super::*;
+    use crate::every::every;
+    use crate::random::Random;
+    use crate::ways::ways;
+
+    /// Of how many conflicts the path is another walk than the least of the
+    /// shortest, and of how many it is longer: a run that meets none of them
+    /// could not tell the rule from that of 01.
+    #[derive(Debug, Default)]
+    struct Counts {
+        others: usize,
+        longer: usize,
+    }
+
+    impl Counts {
+        fn add(&mut self, fields: &[Field], width: u32) {
+            let walks = Walks::of(fields, width);
+            let Some((first, later)) = walks.pair() else { return };
+            let (index_value, from, to) = (walks.0.base(first.index), first.origin, later.origin);
+            let path = walks.least_walk(index_value, from, to).expect("the pair is joined");
+            let all = walks.all(index_value, from, to).into_iter();
+            let shortest = all.min_by_key(|walk| (walk.len(), walk.clone())).expect("as the path");
+            self.others += usize::from(shortest != path);
+            self.longer += usize::from(shortest.len() < path.len());
+        }
+    }
+
+    #[test]
+    fn random_ways_have_paths_that_are_no_shortest_walks() {
+        for (width, bits) in [(1, 14), (2, 17)] {
+            let mut counts = Counts::default();
+            for seed in 0..500 {
+                counts.add(&ways(&mut Random::new(seed), width, bits), width);
+            }
+            assert!(counts.others > 100 && counts.longer > 10, "width {width}: {counts:?}");
+        }
+    }
+
+    #[test]
+    fn of_all_queries_of_six_fields_sixteen_have_another_path_than_before() {
+        let mut counts = Counts::default();
+        every(1, 6, &mut |fields| counts.add(fields, 1));
+        assert_eq!((counts.others, counts.longer), (16, 0));
     }
 }
