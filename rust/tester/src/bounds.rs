@@ -1,5 +1,6 @@
 //! Queries constructed to reach the bounds of 01: all pairs in both verdicts,
-//! the longest lemmas, and many shortest paths to choose from.
+//! the longest lemmas, the longest way around a write, and many paths of one
+//! length to choose from.
 
 use crate::builder::Builder;
 use crate::memory::Memory;
@@ -52,58 +53,102 @@ pub enum Links {
 /// A path over all 48 arrays, each of its edges with a literal of its own,
 /// between two reads at equal indices of different terms.
 pub fn longest_lemma(random: &mut Random, links: Links) -> Vec<u8> {
-    let mut builder = Builder::default();
-    let index_value = random.number() as u32 | 1;
-    let (one, other) = (builder.base(index_value), builder.base(index_value));
-    let witness_index = builder.base(index_value ^ 1);
-    builder.variable(Memory::all(0));
+    let mut joined = Joined::begin(random);
     for array in 1..MAX_ARRAYS as u16 {
-        let kind = match links {
-            Links::Writes => 0,
-            Links::Any => random.below(3),
+        let link = match links {
+            Links::Writes => Link::Write,
+            Links::Any => *random.pick(&[Link::Write, Link::Conditional, Link::Equality]),
         };
-        link(random, &mut builder, array - 1, kind, index_value, witness_index);
+        joined.link(random, array - 1, link);
     }
-    let ends = [0, MAX_ARRAYS as u16 - 1];
-    let first = random.below(2);
-    builder.read_as(ends[first], one, 5);
-    builder.read_as(ends[1 - first], other, 6);
-    encode(&builder.fields)
+    joined.finish(random, MAX_ARRAYS as u16 - 1)
 }
 
-/// Gives the next array with an edge to `beneath` that is open to the value.
-fn link(
-    random: &mut Random,
-    builder: &mut Builder,
-    beneath: u16,
-    kind: usize,
+/// Two ways between the same arrays: so many writes and one more, and around
+/// them all arrays that are left, with so many writes. The second is the path,
+/// of 47 edges less so many (02, E6).
+pub fn longest_detour(random: &mut Random, writes: usize) -> Vec<u8> {
+    let mut joined = Joined::begin(random);
+    let (mut end, mut newest) = (0, 0);
+    for _ in 0..=writes {
+        end = joined.link(random, end, Link::Write);
+    }
+    let others = MAX_ARRAYS - 2 - writes;
+    let written = |place: usize| (place + 1) * writes / others > place * writes / others;
+    for place in 0..others {
+        let other = *random.pick(&[Link::Conditional, Link::Equality]);
+        newest = joined.link(random, newest, if written(place) { Link::Write } else { other });
+    }
+    joined.builder.equality(newest, end, true, joined.witness_index);
+    joined.finish(random, end)
+}
+
+#[derive(Clone, Copy)]
+enum Link {
+    Write,
+    Conditional,
+    Equality,
+}
+
+/// Arrays with edges that are open to one index value, the first a variable.
+struct Joined {
+    builder: Builder,
     index_value: u32,
+    /// Two base terms of that value.
+    indices: [u16; 2],
     witness_index: u16,
-) {
-    match kind {
-        0 => {
-            // Even, so that it differs from the index value, which is odd.
-            let index = builder.base((random.number() as u32) & !1);
-            assert!(builder.values[usize::from(index)] != index_value);
-            builder.write(beneath, index, index);
+}
+
+impl Joined {
+    fn begin(random: &mut Random) -> Joined {
+        let mut builder = Builder::default();
+        let index_value = random.number() as u32 | 1;
+        let indices = [builder.base(index_value), builder.base(index_value)];
+        let witness_index = builder.base(index_value ^ 1);
+        builder.variable(Memory::all(0));
+        Joined { builder, index_value, indices, witness_index }
+    }
+
+    /// Gives the next array with an edge to `beneath` that has a literal of
+    /// its own.
+    fn link(&mut self, random: &mut Random, beneath: u16, link: Link) -> u16 {
+        let builder = &mut self.builder;
+        match link {
+            Link::Write => {
+                // Even, so that it differs from the index value, which is odd.
+                let index = builder.base((random.number() as u32) & !1);
+                assert!(builder.values[usize::from(index)] != self.index_value);
+                builder.write(beneath, index, index)
+            }
+            Link::Conditional => {
+                let truth = random.chance(50);
+                let boolean = builder.boolean(truth);
+                let unchosen = builder.any_array(random);
+                let (if_true, if_false) =
+                    if truth { (beneath, unchosen) } else { (unchosen, beneath) };
+                builder.conditional(boolean, if_true, if_false)
+            }
+            Link::Equality => {
+                let twin = builder.arrays[usize::from(beneath)].clone();
+                let array = builder.variable(twin);
+                builder.equality(beneath, array, true, self.witness_index);
+                array
+            }
         }
-        1 => {
-            let truth = random.chance(50);
-            let boolean = builder.boolean(truth);
-            let unchosen = builder.any_array(random);
-            let (if_true, if_false) = if truth { (beneath, unchosen) } else { (unchosen, beneath) };
-            builder.conditional(boolean, if_true, if_false);
-        }
-        _ => {
-            let twin = builder.arrays[usize::from(beneath)].clone();
-            let array = builder.variable(twin);
-            builder.equality(beneath, array, true, witness_index);
-        }
+    }
+
+    /// The query with two reads in conflict, of the first array and the end.
+    fn finish(mut self, random: &mut Random, end: u16) -> Vec<u8> {
+        let ends = [0, end];
+        let first = random.below(2);
+        self.builder.read_as(ends[first], self.indices[0], 5);
+        self.builder.read_as(ends[1 - first], self.indices[1], 6);
+        encode(&self.builder.fields)
     }
 }
 
 /// Layers of arrays, joined at random from layer to layer by equalities in a
-/// shuffled order, and a conflict across: many shortest paths of one length.
+/// shuffled order, and a conflict across: many paths of one length.
 pub fn many_paths(random: &mut Random) -> Vec<u8> {
     let mut builder = Builder::default();
     let (index, witness_index) = (builder.base(1), builder.base(2));
@@ -136,6 +181,7 @@ pub fn many_paths(random: &mut Random) -> Vec<u8> {
 #[cfg(test)]
 mod tests {
     use super::*;
+    use crate::rules::{lemma_by, Rule};
     use second::{check, clauses, Checked, MAX_CLAUSE_NUMBERS, MAX_LEMMA_BYTES};
 
     const ALL_PAIRS: usize = 14_496;
@@ -170,6 +216,19 @@ mod tests {
             let query = longest_lemma(&mut Random::new(seed), Links::Any);
             let lines = second::verdict_lines(&query);
             assert_eq!(lines.lines().count(), 1 + 49, "{lines}");
+        }
+    }
+    #[test]
+    fn the_longest_detour_is_taken_for_one_write_less() {
+        for (seed, writes) in (0..20).flat_map(|seed| (0..=3).map(move |writes| (seed, writes))) {
+            let query = longest_detour(&mut Random::new(seed), writes);
+            let count = |rule| lemma_by(rule, &query).map(|lemma| lemma.premise.len());
+            assert_eq!(count(Rule::FewestEdges), Some(1 + writes + 1), "seed {seed}");
+            assert_eq!(count(Rule::FewestWrites), Some(1 + 47 - writes), "seed {seed}");
+            let lines = second::verdict_lines(&query);
+            assert_eq!(lines.lines().count(), 1 + 49 - writes, "{lines}");
+            let differ = lines.lines().filter(|line| line.starts_with("ne ")).count();
+            assert_eq!(differ, writes, "{lines}");
         }
     }
 }

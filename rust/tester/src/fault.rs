@@ -5,6 +5,7 @@ use crate::expected::expected;
 use crate::product::Product;
 use crate::request::{Question, Request};
 use crate::rooms::answer_length;
+use crate::rules::{lemma_by, lines, Rule};
 use judge::field::{decode, encode, Field};
 
 #[derive(Clone, Copy, Debug, PartialEq, Eq)]
@@ -32,9 +33,15 @@ pub enum Fault {
     EmptyCellFilled,
     /// Cells beyond the 48th index value of one array are missing.
     CellsCutOff,
+    /// The path is a shortest walk, whatever its writes.
+    ShortestWalk,
+    /// The path has the fewest edges, and among those the fewest writes.
+    EdgesBeforeWrites,
+    /// Of the edges on such a path the highest-numbered is taken.
+    HighestEdge,
 }
 
-pub const FAULTS: [Fault; 11] = [
+pub const FAULTS: [Fault; 14] = [
     Fault::BranchNotChosen,
     Fault::FalseEqualityFollowed,
     Fault::WriteTakenAsVariable,
@@ -46,6 +53,9 @@ pub const FAULTS: [Fault; 11] = [
     Fault::SignTurned,
     Fault::EmptyCellFilled,
     Fault::CellsCutOff,
+    Fault::ShortestWalk,
+    Fault::EdgesBeforeWrites,
+    Fault::HighestEdge,
 ];
 
 /// How many cells of one array are left where they are cut off.
@@ -61,6 +71,16 @@ impl Fault {
         match self {
             Fault::CellsCutOff => variable + (CELLS_LEFT + 1) * (base + read),
             _ => 120,
+        }
+    }
+
+    /// The rule by which the faulty copy finds its path, if it has another.
+    fn rule(self) -> Option<Rule> {
+        match self {
+            Fault::ShortestWalk => Some(Rule::FewestEdges),
+            Fault::EdgesBeforeWrites => Some(Rule::EdgesBeforeWrites),
+            Fault::HighestEdge => Some(Rule::HighestEdge),
+            _ => None,
         }
     }
 }
@@ -118,6 +138,9 @@ impl FaultyProduct<'_> {
 
     /// The answer as the faulty copy gives it.
     fn disturb(&self, request: &Request, answer: String) -> String {
+        if let Some(rule) = self.fault.rule() {
+            return with_another_path(rule, request, answer);
+        }
         match (self.fault, request.question) {
             (Fault::EqualLeftOut, Question::Verdict) => without_equal(&answer),
             (Fault::PairLost, Question::Verdict) => with_pair_lost(&answer),
@@ -142,6 +165,19 @@ impl FaultyProduct<'_> {
             }
             _ => answer,
         }
+    }
+}
+
+/// The verdict's lines with the lemma that this rule chooses.
+fn with_another_path(rule: Rule, request: &Request, answer: String) -> String {
+    match answer.split_once('\n') {
+        Some((first, _))
+            if first.starts_with("conflict") && request.question == Question::Verdict =>
+        {
+            let lemma = lemma_by(rule, &request.query).expect("a conflict has a lemma");
+            format!("{first}\n{}", lines(&lemma))
+        }
+        _ => answer,
     }
 }
 

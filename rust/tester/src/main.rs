@@ -3,7 +3,7 @@
 //! library that is linked in.
 
 use judge::random::Random;
-use judge::{judge, tiny::tiny, Verdict};
+use judge::{judge, tiny::tiny, ways::ways, Verdict};
 use std::process::ExitCode;
 use tester::arguments::{self, Arguments};
 use tester::library::Library;
@@ -72,12 +72,13 @@ fn told(queries: usize) -> Result<(), String> {
 }
 
 /// Without a product: the second program against the judge on tiny queries,
-/// half of them at width 1, half at width 2.
+/// half of them at width 1, half at width 2, and half of each with several ways.
 fn compare_with_judge(seed: u64, count: u64) -> Result<usize, String> {
     let (mut compared, mut conflicts) = (0, 0);
     for number in 0..count {
         let (width, bits) = if number % 2 == 0 { (1, 14) } else { (2, 17) };
-        let fields = tiny(&mut Random::for_number(seed, number), width, bits);
+        let generator = if number % 4 < 2 { tiny } else { ways };
+        let fields = generator(&mut Random::for_number(seed, number), width, bits);
         let verdict = judge(&fields, width)
             .map_err(|wrong| format!("seed {seed} number {number}: {wrong}\n{fields:?}"))?;
         compared += 1;

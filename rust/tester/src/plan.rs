@@ -1,18 +1,20 @@
 //! Which queries a run asks about, and what it asks of each: a function of
 //! the seed and the query's number alone.
 
-use crate::bounds::{all_pairs, longest_lemma, many_paths, Links};
+use crate::bounds::{all_pairs, longest_detour, longest_lemma, many_paths, Links};
 use crate::cells::{many_cells, most_cells};
 use crate::mutate::{lengthened, mutated, overfilled};
 use crate::request::{Question, Request};
 use crate::rooms::{answer_length, with_room};
+use crate::rules::{byte_count, lemma_by, Rule};
 use crate::shapes::SHAPES;
+use crate::ways::many_ways;
 use judge::field::{decode, Field, Series};
 use judge::random::Random;
-use second::{MAX_CLAUSE_NUMBERS, MAX_LEMMA_BYTES};
+use second::{Checked, MAX_CLAUSE_NUMBERS, MAX_LEMMA_BYTES};
 
 /// How many queries at the start of every run are the constructed ones.
-const CONSTRUCTED: u64 = 11;
+const CONSTRUCTED: u64 = 12;
 
 /// All requests about the numbered query of a seed.
 pub fn requests(seed: u64, number: u64, wide_index: bool) -> Vec<Request> {
@@ -58,6 +60,7 @@ fn query(random: &mut Random, number: u64) -> Vec<u8> {
                 let conflict = random.chance(50);
                 many_cells(random, conflict)
             }
+            41..=50 => many_ways(random),
             _ => shaped(random),
         },
     }
@@ -73,7 +76,11 @@ fn constructed(random: &mut Random, which: u64) -> Vec<u8> {
         7 => lengthened(random, Vec::new()),
         8 => most_cells(random),
         9 => many_cells(random, false),
-        _ => many_cells(random, true),
+        10 => many_cells(random, true),
+        _ => {
+            let writes = random.below(4);
+            longest_detour(random, writes)
+        }
     }
 }
 
@@ -91,14 +98,25 @@ fn cut(random: &mut Random) -> Vec<u8> {
 /// The question with a room: often exactly enough, or one too little.
 fn with_any_room(random: &mut Random, question: Question, query: &[u8], most: usize) -> Question {
     let exact = answer_length(question, query).unwrap_or(0);
-    let room = match random.below(8) {
+    let room = match random.below(9) {
         0..=2 => exact,
         3 | 4 => exact.saturating_sub(1),
         5 => exact + 1 + random.below(20),
         6 => random.below(exact + 1),
+        7 => shortest_walk_room(query),
         _ => *random.pick(&[0, 1, most - 1, most, most + 1]),
     };
     with_room(question, room)
+}
+
+/// The bytes that the lemma would take were its path a shortest walk.
+fn shortest_walk_room(query: &[u8]) -> usize {
+    match second::check(query, MAX_LEMMA_BYTES) {
+        Checked::Conflict { .. } => {
+            lemma_by(Rule::FewestEdges, query).map_or(0, |lemma| byte_count(&lemma))
+        }
+        _ => 0,
+    }
 }
 
 /// A cell: mostly of an array of the query, at an index near a value of it.
