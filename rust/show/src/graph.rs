@@ -3,7 +3,7 @@
 
 use crate::field::Field;
 use crate::walk::Placed;
-use std::collections::{BTreeSet, VecDeque};
+use std::collections::BTreeSet;
 
 /// A write or a read. `origin` is an array number, the others are of bases.
 #[derive(Clone, Copy, Debug)]
@@ -29,6 +29,33 @@ pub enum Guard {
 pub struct Edge {
     pub ends: [usize; 2],
     pub guard: Guard,
+}
+
+impl Edge {
+    /// The other end, if the array is one.
+    pub fn leads_from(&self, array: usize) -> Option<usize> {
+        match self.ends {
+            [one, other] if one == array => Some(other),
+            [one, other] if other == array => Some(one),
+            _ => None,
+        }
+    }
+}
+
+/// What a walk has: "the fewest write edges, and among those the fewest edges"
+/// (02, E6), so that the lesser of two is what the order of these makes it.
+#[derive(Clone, Copy, Debug, Default, PartialEq, Eq, PartialOrd, Ord)]
+pub struct Distance {
+    pub writes: usize,
+    pub edges: usize,
+}
+
+impl Distance {
+    /// That of the walk with this edge more.
+    pub fn and(self, edge: &Edge) -> Distance {
+        let write = usize::from(matches!(edge.guard, Guard::Differs(_)));
+        Distance { writes: self.writes + write, edges: self.edges + 1 }
+    }
 }
 
 /// The terms' values and truths, the array terms in words, sources and edges
@@ -106,26 +133,23 @@ impl Graph {
         }
     }
 
-    /// For each array term, in how many steps over edges open to the index
-    /// value it is reached from this one, if it is.
-    pub fn steps(&self, from: usize, index_value: usize) -> Vec<Option<usize>> {
-        let mut steps = vec![None; self.arrays.len()];
-        steps[from] = Some(0);
-        let mut waiting = VecDeque::from([(from, 0)]);
-        while let Some((array, count)) = waiting.pop_front() {
+    /// How far each array term is from this one over edges open to the index
+    /// value, if it is reached. The nearest that is not yet settled comes next.
+    pub fn distances(&self, from: usize, index_value: usize) -> Vec<Option<Distance>> {
+        let mut distances = vec![None; self.arrays.len()];
+        let mut waiting = BTreeSet::from([(Distance::default(), from)]);
+        while let Some((distance, array)) = waiting.pop_first() {
+            if distances[array].is_some() {
+                continue;
+            }
+            distances[array] = Some(distance);
             for edge in self.edges.iter().filter(|edge| self.is_open(edge, index_value)) {
-                let next = match edge.ends {
-                    [one, other] if one == array => other,
-                    [one, other] if other == array => one,
-                    _ => continue,
-                };
-                if steps[next].is_none() {
-                    steps[next] = Some(count + 1);
-                    waiting.push_back((next, count + 1));
+                if let Some(next) = edge.leads_from(array) {
+                    waiting.insert((distance.and(edge), next));
                 }
             }
         }
-        steps
+        distances
     }
 
     /// For each array term, the index values of the sources that reach it.
@@ -133,8 +157,8 @@ impl Graph {
         let mut cells = vec![BTreeSet::new(); self.arrays.len()];
         for (number, source) in self.sources.iter().enumerate() {
             let index_value = self.index_value(number);
-            let steps = self.steps(source.origin, index_value);
-            for (array, _) in steps.iter().enumerate().filter(|(_, count)| count.is_some()) {
+            let distances = self.distances(source.origin, index_value);
+            for (array, _) in distances.iter().enumerate().filter(|(_, way)| way.is_some()) {
                 cells[array].insert(index_value);
             }
         }

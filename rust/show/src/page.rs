@@ -2,7 +2,7 @@
 //! numbers is made again by a run, and must stand on the page.
 
 use crate::field::grouped;
-use crate::graph::{Graph, Guard};
+use crate::graph::{Distance, Graph, Guard};
 use crate::path::Path;
 use crate::walk::Walk;
 use std::fs;
@@ -93,8 +93,8 @@ fn the_marks_are_those_of_k6() {
     let mut pairs = 0;
     for (number, source) in graph.sources.iter().enumerate() {
         let at = graph.index_value(number);
-        let steps = graph.steps(source.origin, at);
-        let reached: Vec<usize> = (0..steps.len()).filter(|a| steps[*a].is_some()).collect();
+        let ways = graph.distances(source.origin, at);
+        let reached: Vec<usize> = (0..ways.len()).filter(|a| ways[*a].is_some()).collect();
         let row: u64 = reached.iter().map(|array| 1 << array).sum();
         pairs += reached.len();
         rows.push(format!("| {number} | {at} | {} | {row:04b} |", listed(reached)));
@@ -111,13 +111,15 @@ fn the_path_is_that_of_k6() {
     let path = Path::of(&graph, &lemma).expect("the lemma's path");
     let at = graph.index_value(path.first);
     let goal = graph.sources[path.later].origin;
-    let steps: Vec<usize> = graph.steps(goal, at).into_iter().flatten().collect();
-    let (last, front) = steps.split_last().expect("four arrays");
+    // Each write costs as much as all edges that it could spare, and one more.
+    let cost = |distance: Distance| 48 * distance.writes + distance.edges;
+    let costs: Vec<usize> = graph.distances(goal, at).into_iter().flatten().map(cost).collect();
+    let (last, front) = costs.split_last().expect("four arrays");
     demand(&[
         format!("`first_pair` finds {} and {}", path.first, path.later),
-        format!("counts the steps at index {at}: to array {goal} they\nare "),
+        format!("the way to array {goal} at index {at} costs"),
         format!("{} and {last} from arrays 0 to 3", listed(front.iter().copied())),
-        format!("one step nearer: edges {}.", listed(path.edges)),
+        format!("on a way of least cost: edges {}.", listed(path.edges)),
     ]);
 }
 

@@ -1,7 +1,7 @@
 //! The two sources of a lemma and the path between them. The lemma's literals
 //! do not name them: two sources may share their terms, and a repeated literal
-//! stands once. So both are searched for again as 01 says, by shortest walks,
-//! and are shown only if they spell the lemma that the library gave.
+//! stands once. So both are searched for again as 01 and 02 (E6) say, and are
+//! shown only if they spell the lemma that the library gave.
 
 use crate::graph::{Graph, Guard};
 use zunidelo::{Lemma, Literal};
@@ -19,7 +19,7 @@ impl Path {
     /// The path of this lemma.
     pub fn of(graph: &Graph, lemma: &Lemma) -> Option<Path> {
         let (first, later) = least_pair(graph)?;
-        let edges = shortest(graph, first, later)?;
+        let edges = fewest_writes(graph, first, later)?;
         let path = Path { first, later, edges };
         (path.literals(graph) == lemma.literals).then_some(path)
     }
@@ -49,11 +49,11 @@ impl Path {
 /// it the least later source t"
 fn least_pair(graph: &Graph) -> Option<(usize, usize)> {
     for first in 0..graph.sources.len() {
-        let steps = graph.steps(graph.sources[first].origin, graph.index_value(first));
+        let distances = graph.distances(graph.sources[first].origin, graph.index_value(first));
         let later = (first + 1..graph.sources.len()).find(|later| {
             graph.index_value(*later) == graph.index_value(first)
                 && graph.source_value(*later) != graph.source_value(first)
-                && steps[graph.sources[*later].origin].is_some()
+                && distances[graph.sources[*later].origin].is_some()
         });
         if let Some(later) = later {
             return Some((first, later));
@@ -62,20 +62,19 @@ fn least_pair(graph: &Graph) -> Option<(usize, usize)> {
     None
 }
 
-/// "at each step take the lowest-numbered open edge that leads one step nearer"
-fn shortest(graph: &Graph, first: usize, later: usize) -> Option<Vec<usize>> {
+/// "at each step the lowest-numbered open edge that lies on such a path"
+fn fewest_writes(graph: &Graph, first: usize, later: usize) -> Option<Vec<usize>> {
     let index_value = graph.index_value(first);
-    let steps = graph.steps(graph.sources[later].origin, index_value);
+    let goal = graph.sources[later].origin;
+    let distances = graph.distances(goal, index_value);
     let mut array = graph.sources[first].origin;
+    distances[array]?;
     let mut edges = Vec::new();
-    for left in (0..steps[array]?).rev() {
+    while array != goal {
         let (edge, next) = graph.edges.iter().enumerate().find_map(|(number, edge)| {
-            let next = match edge.ends {
-                [one, other] if one == array && steps[other] == Some(left) => other,
-                [one, other] if other == array && steps[one] == Some(left) => one,
-                _ => return None,
-            };
-            graph.is_open(edge, index_value).then_some((number, next))
+            let next = edge.leads_from(array)?;
+            let on_path = distances[next].map(|left| left.and(edge)) == distances[array];
+            (on_path && graph.is_open(edge, index_value)).then_some((number, next))
         })?;
         edges.push(edge);
         array = next;
