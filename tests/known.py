@@ -1,10 +1,10 @@
 #!/usr/bin/env python3
-"""Makes the known queries of 01 (K1 to K12) and a few at its bounds, with what the three programs print on each.
+"""Makes the known queries of 01 (K1 to K12), some on which path is chosen, and a few at 01's bounds, with what the three programs print.
 
   tests/known.py           write tests/known/, examples/, and what the programs' crates are run on
   tests/known.py --check   exit 1 where what stands there is something else
 
-The verdict lines are typed from 01; those of the queries at the bounds follow from how they are made, as is said beside them. The
+The verdict lines are typed from 01; those of the other queries follow from how they are made, as is said beside them. The
 clauses are made from the literals by 01's rule, written once more here. Nothing comes from a program that checks queries.
 
   NAME.hex          the query
@@ -136,6 +136,55 @@ known("K12", K12, ["consistent 2", "0 0 1", "0 4294967295 2"], None, [(0, 0, "1"
 MIXED = [base(1), base(1), base(2), boolean(1), boolean(0), variable(), write(2, 2, 0)]
 MIXED += [conditional(0, 1, 0), conditional(1, 0, 2), read(5, 0, 0), read(6, 3, 1)]
 known("mixed", MIXED, ["conflict 11", "eq 0 1", "ne 0 2", "true 0", "false 1", "then 3 4"])
+
+# --- which path (02, E6): the fewest write edges, and among those the fewest edges; at each step the lowest-numbered edge on such a path.
+# All reads in these are at b0, which is 1, and no write is. So where nothing else is said every source reaches every array, a write those
+# on the other side of its own edge by the equalities.
+
+# A write and, between the same arrays, an equality of a higher number: 3 sources and 2 arrays.
+BESIDE = [base(1), base(2), base(30), variable(), write(2, 1, 0), read(8, 1, 0), read(9, 0, 0), equality(1, 0, 1, 3, 4)]
+known("beside-a-write", BESIDE, ["conflict 6", "true 0", "then 3 4"], "p cnf 162 65")
+
+# Two equalities around a write: 4 sources and 3 arrays. The lemma has 17 bytes; that of the write would have 14.
+AROUND = [base(1), base(2), base(30), variable(), variable(), write(2, 1, 0), read(8, 2, 0), read(9, 0, 0), read(8, 1, 0)]
+AROUND += [equality(2, 1, 1, 3, 5), equality(1, 0, 1, 5, 4)]
+known("around-a-write", AROUND, ["conflict 12", "true 0", "true 1", "then 3 4"], "p cnf 195 65")
+
+# A conditional and an equality around a write: 4 sources and 3 arrays.
+CHOSEN = [boolean(1), base(1), base(2), base(30), variable(), write(2, 1, 0), conditional(0, 1, 0)]
+CHOSEN += [read(8, 1, 0), read(9, 0, 0), read(8, 2, 0), equality(2, 0, 1, 5, 4)]
+known("conditional-around", CHOSEN, ["conflict 12", "true 0", "true 1", "then 3 4"])
+
+# One write on either way, and on that of the lower number an equality more: 5 sources and 3 arrays.
+EACH = [base(1), base(2), base(3), base(30), variable(), write(3, 1, 0), write(3, 2, 0)]
+EACH += [read(8, 0, 0), read(9, 2, 0), read(9, 1, 0), equality(2, 1, 1, 5, 6)]
+known("one-write-each", EACH, ["conflict 15", "ne 0 2", "then 4 5"])
+
+# Two equalities between the same arrays: 2 sources and 2 arrays.
+PARALLEL = [base(1), variable(), variable(), read(8, 0, 0), read(9, 1, 0), equality(0, 1, 1, 1, 2), equality(1, 0, 1, 2, 1)]
+known("parallel", PARALLEL, ["conflict 4", "true 0", "then 1 2"])
+
+# Two arrays, a write over each, and equalities of the two and of their writes: a write and then an equality, or an equality and then a
+# write. The numbers decide at the first step: 6 sources and 4 arrays. With an array more, before them, at the second: 7 sources and 5.
+SQUARE = [base(1), base(2), base(3), base(30), variable(), variable(), write(3, 1, 0), write(3, 2, 1)]
+FIRST = SQUARE + [read(8, 0, 0), read(9, 3, 0), read(8, 1, 0), read(9, 2, 0), equality(0, 1, 1, 4, 6), equality(2, 3, 1, 7, 5)]
+known("square-first", FIRST, ["conflict 24", "ne 0 1", "true 1", "then 4 5"])
+SECOND = SQUARE + [variable(), read(8, 4, 0), read(9, 3, 0), read(8, 1, 0), read(9, 2, 0), read(8, 0, 0)]
+SECOND += [equality(0, 1, 1, 8, 6), equality(2, 3, 1, 7, 5), equality(4, 0, 1, 4, 8)]
+known("square-second", SECOND, ["conflict 35", "true 2", "ne 0 1", "true 1", "then 4 5"])
+
+# Two writes at one index, which would leave one literal, and around them one write and two equalities: the edges count, not the literals.
+# The first of the two writes reaches its own array alone, the second all but that one, the third and the four reads all 5: 1 + 4 + 25.
+TWICE = [base(1), base(2), base(3), variable(), variable(), write(1, 1, 0), write(1, 1, 2), write(1, 2, 0)]
+TWICE += [read(8, 0, 0), read(9, 3, 0), read(8, 4, 0), read(9, 1, 0), equality(4, 1, 1, 5, 6), equality(1, 3, 1, 6, 4)]
+known("written-twice", TWICE, ["conflict 30", "ne 0 2", "true 0", "true 1", "then 3 4"])
+
+# As many equalities around one write as there may be: 47, from A0 over 46 variables to the write. A read of each array and one more of the
+# write at b1, also 1: 50 sources and 48 arrays.
+DETOUR = [base(1), base(1), base(2)] + [variable()] * 47 + [write(2, 2, 0)] + [read(7, array, 0) for array in range(48)]
+DETOUR += [equality(n, n + 1, 1, 3 + n, 4 + n) for n in range(47)] + [read(8, 47, 1)]
+DETOUR_LINES = ["conflict 2400", "eq 0 1"] + [f"true {n}" for n in range(47)] + ["then 3 51"]
+known("longest-detour", DETOUR, DETOUR_LINES, "p cnf 1744 129")
 
 # --- at the bounds. A chain of 48 arrays: 47 writes at indices 100 to 146, and a read at index 1 of each end. Each read reaches all 48
 # arrays; a write reaches those from itself upward, as its own edge is closed to it. The lemma has 49 literals, the clauses 12,625 numbers.
