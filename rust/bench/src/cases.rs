@@ -3,13 +3,11 @@
 //! alone refuses of it, and every stored query.
 
 use crate::classes::Class;
-use crate::contenders::{refused_by, Contest, Question, NO_SUCH_CELL};
+use crate::contenders::{refused_by, Contest, Question, NO_ROOM, NO_SUCH_CELL};
 use crate::damages::DAMAGES;
 use crate::libraries::{Check, Clauses, Function, Lookup};
 use std::fs;
 use tester::request::parse_hex;
-
-const NO_ROOM: u64 = 10;
 
 /// Lookup on a query in conflict, clauses for a consistent one.
 const OTHER_VERDICT: u64 = 12;

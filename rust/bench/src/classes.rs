@@ -1,6 +1,7 @@
 //! The classes of queries that are timed: three shapes at three sizes in both
 //! verdicts, queries in which every source reaches every array, with few index
-//! values and with one, and queries whose lemma has as many literals as any.
+//! values and with one, queries whose lemma has as many literals as any, and
+//! queries in which equalities go around the writes.
 
 use judge::field::encode;
 use judge::random::Random;
@@ -79,6 +80,13 @@ pub fn classes() -> Vec<Class> {
     for conflict in [false, true] {
         let query = most_literals(conflict);
         classes.push(Class { name: "most literals, largest".to_string(), query, conflict });
+    }
+    for conflict in [false, true] {
+        classes.push(Class {
+            name: "ladder, largest".to_string(),
+            query: ladder(conflict),
+            conflict,
+        });
     }
     classes
 }
@@ -160,6 +168,31 @@ fn most_literals(conflict: bool) -> Vec<u8> {
     finished(&builder, other, conflict)
 }
 
+/// A chain of writes, each of what is there, and around each but the last two
+/// equalities; then reads at any index. The path from end to end of the chain
+/// has all the equalities and the last write; a shortest walk has the writes.
+fn ladder(conflict: bool) -> Vec<u8> {
+    let mut random = Random::new(SEED);
+    let mut builder = Builder::default();
+    let (index, zero) = (builder.base(INDEX), builder.base(0));
+    let mut newest = builder.variable(Memory::all(0));
+    builder.read(newest, index);
+    while builder.room_for_array() {
+        let write_index = builder.base(2 * u32::from(newest));
+        let written = builder.write(newest, write_index, zero);
+        if builder.room_for_array() {
+            let side = builder.variable(Memory::all(0));
+            builder.equality(newest, side, true, index);
+            builder.equality(side, written, true, index);
+        }
+        newest = written;
+    }
+    while builder.room_for_bases(2) {
+        builder.read(builder.any_array(&mut random), builder.any_base(&mut random));
+    }
+    finished(&builder, index, conflict)
+}
+
 /// The query so far with its last read.
 fn finished(builder: &Builder, index: u16, conflict: bool) -> Vec<u8> {
     let mut builder = builder.clone();
@@ -172,7 +205,9 @@ fn finished(builder: &Builder, index: u16, conflict: bool) -> Vec<u8> {
 #[cfg(test)]
 mod tests {
     use super::*;
+    use judge::lemma::Literal;
     use second::{check, Checked, MAX_LEMMA_BYTES};
+    use tester::rules::{lemma_by, Rule};
 
     #[test]
     fn every_class_has_its_verdict() {
@@ -190,6 +225,17 @@ mod tests {
         let checked = check(&most_literals(true), MAX_LEMMA_BYTES);
         let Checked::Conflict { lemma, .. } = checked else { panic!("{checked:?}") };
         assert_eq!(lemma.len(), MAX_LEMMA_BYTES);
+    }
+
+    #[test]
+    fn the_ladder_is_climbed_by_its_equalities() {
+        let lemma = |rule| lemma_by(rule, &ladder(true)).expect("a conflict").premise;
+        let writes = |premise: &[Literal]| {
+            premise.iter().filter(|literal| matches!(literal, Literal::Differ(..))).count()
+        };
+        let (path, shortest) = (lemma(Rule::FewestWrites), lemma(Rule::FewestEdges));
+        assert_eq!((path.len(), writes(&path)), (47, 1));
+        assert_eq!((shortest.len(), writes(&shortest)), (24, 24));
     }
 
     #[test]

@@ -1,19 +1,23 @@
 //! The calls that are timed, each by every contender: the same bytes in, the
 //! same buffers out.
 
-use crate::libraries::{Answer, Check, Clauses, Function, Lookup};
+use crate::libraries::{Answer, Check, Clauses, Function, Lookup, Report};
 use judge::field::{decode, Series};
+use std::ops::Range;
 use zunidelo::{CLAUSE_NUMBERS, LEMMA_BYTES};
 
 /// What the functions return, as the header numbers it.
 const CONSISTENT: u32 = 0;
-const CONFLICT: u32 = 1;
-const REFUSED: u32 = 2;
+pub const CONFLICT: u32 = 1;
+pub const REFUSED: u32 = 2;
 
 /// The least index that the library refuses, and by which number. The second
 /// program takes any index.
 const INDEX_LIMIT: u64 = 1 << 32;
 pub const NO_SUCH_CELL: u64 = 11;
+
+/// The number by which an answer that is longer than its buffer is refused.
+pub const NO_ROOM: u64 = 10;
 
 /// What a buffer is filled with, so that a write of 0 is seen.
 const BYTE: u8 = 0xAA;
@@ -53,6 +57,34 @@ impl Question {
         Question { numbers: vec![NUMBER; room], ..self }
     }
 
+    /// The same with as much room as any answer takes.
+    pub fn with_all_room(self) -> Question {
+        self.with_bytes(LEMMA_BYTES).with_numbers(CLAUSE_NUMBERS)
+    }
+
+    /// The same with no more room than another question has.
+    pub fn with_room_of(mut self, other: &Question) -> Question {
+        self.answer.truncate(other.answer.len());
+        self.numbers.truncate(other.numbers.len());
+        self
+    }
+
+    pub fn has_room_for(&self, written: &Written) -> bool {
+        written.bytes <= self.answer.len() && written.numbers <= self.numbers.len()
+    }
+
+    /// The first bytes of the answer.
+    pub fn bytes(&self, count: usize) -> &[u8] {
+        &self.answer[..count]
+    }
+
+    /// Whether the buffers are as they were filled, but for what is written.
+    pub fn is_untouched_after(&self, written: &Written) -> bool {
+        self.has_room_for(written)
+            && self.answer[written.bytes..].iter().all(|byte| *byte == BYTE)
+            && self.numbers[written.numbers..].iter().all(|number| *number == NUMBER)
+    }
+
     /// The same about the array after the newest.
     pub fn past_the_arrays(self) -> Question {
         Question { array: self.array + 1, ..self }
@@ -64,9 +96,22 @@ impl Question {
     }
 }
 
+/// How much of each buffer an answer fills.
+#[derive(Default)]
+pub struct Written {
+    pub bytes: usize,
+    pub numbers: usize,
+}
+
 /// A function of the library, which the second program has as well.
 pub trait Contest: Function {
     const NAME: &'static str;
+
+    /// Which numbers of a report of a conflict are about the lemma.
+    const OF_THE_LEMMA: Range<usize>;
+
+    /// What it has written, by its report.
+    fn written(report: &Report) -> Written;
 
     /// Whether the function refuses no query of this verdict.
     fn answers(conflict: bool) -> bool;
@@ -77,6 +122,11 @@ pub trait Contest: Function {
 
 impl Contest for Check {
     const NAME: &'static str = "check";
+    const OF_THE_LEMMA: Range<usize> = 3..4;
+
+    fn written(report: &Report) -> Written {
+        Written { bytes: report[3] as usize, ..Written::default() }
+    }
 
     fn answers(_conflict: bool) -> bool {
         true
@@ -100,6 +150,11 @@ impl Contest for Check {
 
 impl Contest for Lookup {
     const NAME: &'static str = "lookup";
+    const OF_THE_LEMMA: Range<usize> = 0..0;
+
+    fn written(_report: &Report) -> Written {
+        Written::default()
+    }
 
     fn answers(conflict: bool) -> bool {
         !conflict
@@ -120,6 +175,11 @@ impl Contest for Lookup {
 
 impl Contest for Clauses {
     const NAME: &'static str = "clauses";
+    const OF_THE_LEMMA: Range<usize> = 2..5;
+
+    fn written(report: &Report) -> Written {
+        Written { numbers: report[4] as usize, ..Written::default() }
+    }
 
     fn answers(conflict: bool) -> bool {
         conflict
@@ -158,27 +218,4 @@ pub fn told(answer: Answer) -> String {
         (CONFLICT, _) => "answered conflict".to_string(),
         (_, report) => format!("refused by {}", report[0]),
     }
-}
-
-/// Ends the run where a contender answers otherwise than the library: in what
-/// is returned, in the report or in a buffer. Gives what all answer.
-pub fn assert_all_agree<C: Contest>(name: &str, question: &Question) -> Answer {
-    let asked = |call: &dyn Fn(&mut Question) -> Answer| {
-        let mut question = question.clone();
-        (call(&mut question), question)
-    };
-    let library = asked(&|question| C::TODAY.library(question));
-    let agree = |contender: &str, other: (Answer, Question)| {
-        let (today, others) = (library.0, other.0);
-        assert!(
-            library == other,
-            "{}, {name}: the library answers {today:?}, the {contender} {others:?}, or their buffers differ",
-            C::NAME
-        );
-    };
-    agree("second program", asked(&C::second));
-    if let Some(before) = C::BEFORE {
-        agree("earlier library", asked(&|question| before.library(question)));
-    }
-    library.0
 }

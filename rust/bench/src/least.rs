@@ -1,7 +1,8 @@
 //! The least that a call through the C face costs: an empty query, which has
 //! no field, and a query of one byte, which is refused at once.
 
-use crate::contenders::{assert_all_agree, Contest, Question};
+use crate::agreement::assert_all_agree;
+use crate::contenders::{Contest, Question};
 use crate::libraries::{Check, Clauses, Lookup};
 use crate::table::{before_columns, before_titles, cell, column};
 use crate::timing::{in_turn, libraries};

@@ -4,8 +4,11 @@
 
 #![allow(unsafe_code)]
 
-/// What a function returns, and its report; one of four numbers has a 0 more.
-pub type Answer = (u32, [u64; 5]);
+/// A report; one of four numbers has a 0 more.
+pub type Report = [u64; 5];
+
+/// What a function returns, and its report.
+pub type Answer = (u32, Report);
 
 pub trait Function: Copy + Sync + 'static {
     const TODAY: Self;

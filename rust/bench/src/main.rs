@@ -3,13 +3,16 @@
 //! query, the stack that a call takes, and the least that a call costs. Nothing
 //! is asserted of a time; that all answer the same is. `bench stack LIMIT`
 //! measures the stack alone, and fails where a call takes more bytes than that.
+//! `bench lemmas SEED COUNT` tells what the lemmas of seeded queries cost.
 
+mod agreement;
 mod cases;
 mod classes;
 mod clock;
 mod contenders;
 mod damages;
 mod least;
+mod lemmas;
 mod libraries;
 mod most;
 mod processor;
@@ -34,8 +37,13 @@ fn main() -> ExitCode {
             let limit = limit.parse().expect("the limit is a number of bytes");
             most::within(limit, &most::measure(&classes()))
         }
+        ["lemmas", seed, count] => {
+            let number = |word: &str| word.parse().expect("SEED and COUNT are numbers");
+            lemmas::print(number(seed), number(count));
+            true
+        }
         _ => {
-            eprintln!("usage: bench [stack LIMIT]");
+            eprintln!("usage: bench [stack LIMIT | lemmas SEED COUNT]");
             false
         }
     };

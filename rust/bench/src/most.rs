@@ -1,9 +1,10 @@
 //! The stack of every call that `cases` has: the most of each function, and
 //! each call against a limit.
 
+use crate::agreement::{assert_all_agree, earlier_words, Agreed, Alike};
 use crate::cases::{cases, Case, Measured};
 use crate::classes::Class;
-use crate::contenders::{assert_all_agree, refused_by, told};
+use crate::contenders::{refused_by, told};
 use crate::libraries::{Check, Clauses, Lookup};
 use crate::stack::stacks;
 use std::collections::BTreeSet;
@@ -14,6 +15,8 @@ pub struct Call {
     /// The function, what it was asked and what it answered.
     name: String,
     refused: Option<u64>,
+    /// How the earlier library answers.
+    earlier: Alike,
     /// The bytes that it takes in today's library, then in the earlier one.
     stacks: Vec<usize>,
 }
@@ -41,15 +44,17 @@ fn measure_one<C: Measured>(classes: &[Class]) -> Vec<Call> {
     let most = |library: usize| calls.iter().map(|call| call.stacks[library]).max().unwrap_or(0);
     let before = C::BEFORE.map_or(String::new(), |_| format!(", before {}", most(1)));
     println!("{:<10} {:>8}{before}", C::NAME, most(0));
+    let earlier: Vec<Alike> = calls.iter().map(|call| call.earlier).collect();
+    print!("{}", earlier_words::<C>("calls", &earlier));
     calls
 }
 
 fn call<C: Measured>(case: &Case) -> Call {
-    let answer = assert_all_agree::<C>(&case.name, &case.question);
+    let Agreed { answer, earlier } = assert_all_agree::<C>(&case.name, &case.question);
     let name = format!("{} of {}, {}", C::NAME, case.name, told(answer));
     let refused = refused_by(answer);
     assert_eq!(refused, case.refused, "{name}");
-    Call { name, refused, stacks: stacks::<C>(&case.question) }
+    Call { name, refused, earlier, stacks: stacks::<C>(&case.question) }
 }
 
 /// Prints the call that takes the most, each that takes more than the limit,

@@ -1,8 +1,9 @@
 //! One table for each call: a row for each class of query, and a last line
 //! that names the classes in which the library is much slower.
 
+use crate::agreement::{assert_all_agree, earlier_words};
 use crate::classes::Class;
-use crate::contenders::{assert_all_agree, Contest, Question};
+use crate::contenders::{Contest, Question};
 use crate::stack::stacks;
 use crate::timing::{in_turn, libraries, second_program, Times};
 
@@ -13,10 +14,10 @@ pub fn print<C: Contest>(classes: &[Class]) {
     print!("\n{:<22} {:<10} {:>5} ", C::NAME, "verdict", "bytes");
     print!("{} {} {:>5}", column("library", ""), column("second", "program"), "ratio");
     println!("{}", before_titles::<C>());
-    let mut slower = Vec::new();
+    let (mut slower, mut earlier) = (Vec::new(), Vec::new());
     for class in classes {
         let name = class.name_and_verdict();
-        assert_all_agree::<C>(&name, &Question::about(&class.query));
+        earlier.push(assert_all_agree::<C>(&name, &Question::about(&class.query)).earlier);
         if C::answers(class.conflict) {
             let ratio = print_row::<C>(class);
             if ratio > SLOWER {
@@ -29,6 +30,7 @@ pub fn print<C: Contest>(classes: &[Class]) {
     } else {
         println!("above {SLOWER} times the second program: {}", slower.join("; "));
     }
+    print!("{}", earlier_words::<C>("classes", &earlier));
 }
 
 /// Answers the ratio, library to second program.

@@ -10,6 +10,7 @@ use judge::random::Random;
 type Weights = [usize; 7];
 
 pub struct Shape {
+    pub name: &'static str,
     weights: Weights,
     /// Values are below this, or any if it is 0.
     values: usize,
@@ -21,27 +22,25 @@ pub struct Shape {
 }
 
 pub const SHAPES: [Shape; 8] = [
-    // Chains of writes.
-    Shape::of([4, 0, 1, 12, 0, 8, 0], 6, 80, 40),
-    // Meshes of equalities.
-    Shape::of([2, 0, 8, 2, 0, 4, 12], 3, 10, 60),
-    // Conditionals.
-    Shape::of([2, 4, 4, 1, 12, 6, 2], 4, 30, 50),
-    // Colliding values.
-    Shape::of([4, 1, 2, 4, 2, 8, 3], 2, 30, 40),
-    // Mixed.
-    Shape::of([4, 2, 2, 6, 4, 8, 4], 8, 40, 120),
-    // Values of any size.
-    Shape::of([4, 2, 2, 6, 4, 8, 4], 0, 40, 60),
-    // Few fields.
-    Shape::of([3, 1, 2, 3, 1, 5, 2], 3, 40, 12),
-    // The largest sizes.
-    Shape { full: true, ..Shape::of([3, 2, 2, 4, 3, 8, 5], 12, 40, 400) },
+    Shape::of("chains of writes", [4, 0, 1, 12, 0, 8, 0], 6, 80, 40),
+    Shape::of("meshes of equalities", [2, 0, 8, 2, 0, 4, 12], 3, 10, 60),
+    Shape::of("conditionals", [2, 4, 4, 1, 12, 6, 2], 4, 30, 50),
+    Shape::of("colliding values", [4, 1, 2, 4, 2, 8, 3], 2, 30, 40),
+    Shape::of("mixed", [4, 2, 2, 6, 4, 8, 4], 8, 40, 120),
+    Shape::of("values of any size", [4, 2, 2, 6, 4, 8, 4], 0, 40, 60),
+    Shape::of("few fields", [3, 1, 2, 3, 1, 5, 2], 3, 40, 12),
+    Shape { full: true, ..Shape::of("the largest sizes", [3, 2, 2, 4, 3, 8, 5], 12, 40, 400) },
 ];
 
 impl Shape {
-    const fn of(weights: Weights, values: usize, newest: usize, fields: usize) -> Shape {
-        Shape { weights, values, newest, fields, full: false }
+    const fn of(
+        name: &'static str,
+        weights: Weights,
+        values: usize,
+        newest: usize,
+        fields: usize,
+    ) -> Shape {
+        Shape { name, weights, values, newest, fields, full: false }
     }
 
     /// An accepted query of this shape.
@@ -191,15 +190,16 @@ mod tests {
 
     #[test]
     fn every_shape_is_accepted_and_gives_both_verdicts() {
-        for (place, shape) in SHAPES.iter().enumerate() {
+        for shape in &SHAPES {
+            let name = shape.name;
             let (mut consistent, mut conflict) = (0, 0);
             for seed in 0..200 {
                 let lines = verdict_lines(&shape.query(&mut Random::new(seed)));
                 consistent += usize::from(lines.starts_with("consistent"));
                 conflict += usize::from(lines.starts_with("conflict"));
             }
-            assert_eq!(consistent + conflict, 200, "shape {place}");
-            assert!(consistent > 10 && conflict > 10, "shape {place}: {consistent} {conflict}");
+            assert_eq!(consistent + conflict, 200, "{name}");
+            assert!(consistent > 10 && conflict > 10, "{name}: {consistent} {conflict}");
         }
     }
 

@@ -1,0 +1,143 @@
+//! What the lemmas cost, by today's library and by an earlier one where it is
+//! linked: over seeded queries of the tester's kinds, how many comparisons,
+//! literals, clauses and bytes their lemmas have in all, and how many lemmas
+//! are others. All contenders must agree on every query.
+
+use crate::agreement::{assert_all_agree, lemma_of, Alike};
+use crate::contenders::{Contest, Question};
+use crate::libraries::{Check, Clauses, Function, Lookup};
+use judge::lemma::{Lemma, Literal};
+use judge::random::Random;
+use tester::bounds::{all_pairs, longest_detour, longest_lemma, many_paths, Links};
+use tester::cells::many_cells;
+use tester::shapes::SHAPES;
+use tester::ways::many_ways;
+
+/// Makes a query of a kind.
+type Generator = Box<dyn Fn(&mut Random) -> Vec<u8>>;
+
+/// The kinds of query that the tester draws, each with its name.
+fn kinds() -> Vec<(&'static str, Generator)> {
+    let shaped =
+        |place: usize| -> Generator { Box::new(move |random| SHAPES[place].query(random)) };
+    let mut kinds: Vec<(&str, Generator)> =
+        (0..SHAPES.len()).map(|place| (SHAPES[place].name, shaped(place))).collect();
+    kinds.push(("many paths", Box::new(many_paths)));
+    kinds.push(("many ways", Box::new(many_ways)));
+    kinds.push(("many cells", Box::new(|random| many_cells(random, true))));
+    kinds.push(("all pairs", Box::new(|random| all_pairs(random, true))));
+    kinds.push(("longest, writes", Box::new(|random| longest_lemma(random, Links::Writes))));
+    kinds.push(("longest, any links", Box::new(|random| longest_lemma(random, Links::Any))));
+    kinds.push(("longest detour", Box::new(|random| longest_detour(random, 0))));
+    kinds
+}
+
+/// What lemmas have in all: comparisons of a write's index, literals, clauses
+/// and bytes.
+type Cost = [u64; 4];
+
+const COLUMNS: [&str; 4] = ["ne", "literals", "clauses", "bytes"];
+
+/// The cost of the lemma of a query in conflict, by one library.
+fn cost(check: Check, clauses: Clauses, question: &Question) -> Option<Cost> {
+    let bytes = lemma_of(check, question)?;
+    let lemma = Lemma::read(&bytes).expect("the lemma of a library");
+    let differ = |literal: &&Literal| matches!(literal, Literal::Differ(..));
+    let comparisons = lemma.premise.iter().filter(differ).count();
+    let (_, [_, _, _, clauses, _]) = clauses.library(&mut question.clone());
+    Some([comparisons as u64, lemma.premise.len() as u64 + 1, clauses, bytes.len() as u64])
+}
+
+/// The lemmas of some queries, by today's library and by the earlier one.
+#[derive(Default)]
+struct Totals {
+    queries: usize,
+    conflicts: usize,
+    costs: [Cost; 2],
+    others: usize,
+    shorter: usize,
+    longer: usize,
+}
+
+impl Totals {
+    fn add_query(&mut self, name: &str, query: &[u8]) {
+        let question = Question::about(query);
+        let earlier = assert_all_agree::<Check>(name, &question).earlier;
+        assert_all_agree::<Lookup>(name, &question);
+        assert_all_agree::<Clauses>(name, &question);
+        let linked = Check::linked().zip(Clauses::linked());
+        let costs: Vec<Cost> =
+            linked.filter_map(|(check, clauses)| cost(check, clauses, &question)).collect();
+        self.queries += 1;
+        self.conflicts += usize::from(!costs.is_empty());
+        self.others += usize::from(earlier == Alike::ButForTheLemma);
+        for (total, cost) in self.costs.iter_mut().zip(&costs) {
+            add(total, cost);
+        }
+        if let [[.., today], [.., before]] = costs[..] {
+            self.shorter += usize::from(today < before);
+            self.longer += usize::from(today > before);
+        }
+    }
+
+    fn add(&mut self, other: &Totals) {
+        self.queries += other.queries;
+        self.conflicts += other.conflicts;
+        self.others += other.others;
+        self.shorter += other.shorter;
+        self.longer += other.longer;
+        for (total, cost) in self.costs.iter_mut().zip(&other.costs) {
+            add(total, cost);
+        }
+    }
+
+    fn print(&self, name: &str) {
+        print!("{name:<22} {:>9}", self.conflicts);
+        for column in 0..COLUMNS.len() {
+            let before = before_column(self.costs[1][column]);
+            print!("  {before}{:>9}", self.costs[0][column]);
+        }
+        println!("{}", before_words(&[self.others, self.shorter, self.longer]));
+    }
+}
+
+fn add(total: &mut Cost, cost: &Cost) {
+    for (sum, number) in total.iter_mut().zip(cost) {
+        *sum += number;
+    }
+}
+
+/// What is told of the earlier library alone, where one is linked.
+fn before_column(text: impl ToString) -> String {
+    Check::BEFORE.map_or(String::new(), |_| format!("{:>9}", text.to_string()))
+}
+
+fn before_words(words: &[impl ToString]) -> String {
+    words.iter().map(|word| before_column(word.to_string())).collect()
+}
+
+fn print_titles() {
+    print!("{:<22} {:>9}", "kind of query", "conflicts");
+    for column in COLUMNS {
+        print!("  {}{column:>9}", before_column("before"));
+    }
+    println!("{}", before_words(&["others", "shorter", "longer"]));
+}
+
+/// Prints a line for each kind, of so many queries each, and one for all.
+pub fn print(seed: u64, count: u64) {
+    println!("the lemmas of {count} queries of each kind, seed {seed}: what they have in all");
+    print_titles();
+    let mut all = Totals::default();
+    for (name, query) in kinds() {
+        let mut totals = Totals::default();
+        for number in 0..count {
+            let place = format!("{name}, seed {seed}, query {number}");
+            totals.add_query(&place, &query(&mut Random::for_number(seed, number)));
+        }
+        totals.print(name);
+        all.add(&totals);
+    }
+    all.print("all");
+    println!("{} queries compared, by every call", all.queries);
+}
