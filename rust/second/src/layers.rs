@@ -1,63 +1,61 @@
 //! How far the arrays are from the goal of a path: "the fewest write edges, and
 //! among those the fewest edges" (02, E6). Each layer is a set of arrays.
 
-use crate::query::{Edge, Query};
-use crate::reach::{neighbours, step};
-use std::collections::BTreeMap;
+use crate::query::{Edge, Query, MAX_ARRAYS};
+use crate::reach::{neighbours, step, Sets};
 
 /// How many write edges and how many edges there are to the goal. The order
 /// is that of the rule: write edges first.
-type Distance = (usize, usize);
+pub type Distance = (usize, usize);
 
-/// By distance, the arrays whose best way to the goal has it. A best way goes
-/// from layer to layer: after an edge there is one edge less to go, and after
-/// a write one write edge less as well.
-pub struct Layers(BTreeMap<Distance, u64>);
+/// What is left to the goal after a write or another edge, where such an edge
+/// lies on a best way.
+pub fn after((writes, edges): Distance, is_write: bool) -> Option<Distance> {
+    Some((writes.checked_sub(usize::from(is_write))?, edges.checked_sub(1)?))
+}
+
+/// By write edges and then by edges, the arrays whose best way to the goal has
+/// so many of both. A best way goes from layer to layer.
+pub struct Layers(Vec<Sets>);
 
 impl Layers {
     /// The layers around the goal, the nearest first, up to the one that holds
-    /// the start. An array stands in the first layer that meets it.
-    pub fn until(query: &Query, index_value: u32, start: usize, goal: usize) -> Layers {
-        let open = |edge: &Edge| query.is_open(edge, index_value);
+    /// the start, and its distance. An array stands in the first layer that
+    /// meets it.
+    pub fn until(query: &Query, value: u32, start: usize, goal: usize) -> (Layers, Distance) {
+        let open = |edge: &Edge| query.is_open(edge, value);
         let over_writes = neighbours(query, |edge| edge.is_write() && open(edge));
         let over_others = neighbours(query, |edge| !edge.is_write() && open(edge));
-        let mut seen: u64 = 1 << goal;
-        let mut layers = Layers(BTreeMap::from([((0, 0), seen)]));
-        let mut distances = distances(query.arrays);
-        while seen >> start & 1 == 0 {
-            let distance = distances.next().expect("the pair's origins are in one component");
-            let met = step(&over_writes, layers.after_edge(distance, true))
-                | step(&over_others, layers.after_edge(distance, false));
-            if met & !seen != 0 {
-                layers.0.insert(distance, met & !seen);
-                seen |= met;
+        let mut layers = Layers(Vec::new());
+        let mut seen: u64 = 0;
+        for distance in distances(query.arrays) {
+            if distance.1 == 0 {
+                layers.0.push([0; MAX_ARRAYS]);
+            }
+            let met = match distance {
+                (0, 0) => 1 << goal,
+                _ => {
+                    step(&over_writes, layers.at(after(distance, true)))
+                        | step(&over_others, layers.at(after(distance, false)))
+                }
+            };
+            layers.0[distance.0][distance.1] = met & !seen;
+            seen |= met;
+            if seen >> start & 1 == 1 {
+                return (layers, distance);
             }
         }
-        layers
+        unreachable!("the pair's origins are in one component");
     }
 
-    /// The layer where an array of this distance is to be after a write or
-    /// another edge.
-    fn after_edge(&self, (writes, edges): Distance, is_write: bool) -> u64 {
-        match writes.checked_sub(usize::from(is_write)) {
-            Some(writes) => self.0.get(&(writes, edges - 1)).copied().unwrap_or(0),
-            None => 0,
-        }
-    }
-
-    /// The arrays to which such an edge from this one lies on a best way.
-    pub fn nearer(&self, array: usize, is_write: bool) -> u64 {
-        let (distance, _) = self
-            .0
-            .iter()
-            .find(|(_, layer)| *layer >> array & 1 == 1)
-            .expect("no array on the path is further than its start");
-        self.after_edge(*distance, is_write)
+    /// The arrays at this distance; none where there is no such distance.
+    pub fn at(&self, distance: Option<Distance>) -> u64 {
+        distance.map_or(0, |(writes, edges)| self.0[writes][edges])
     }
 }
 
-/// Every distance but that of the goal, the nearest first: no way that comes
-/// nowhere twice has as many edges as there are arrays.
+/// Every distance, the nearest first: no way that comes nowhere twice has as
+/// many edges as there are arrays.
 fn distances(arrays: usize) -> impl Iterator<Item = Distance> {
-    (0..arrays).flat_map(move |writes| (1..arrays).map(move |edges| (writes, edges)))
+    (0..arrays).flat_map(move |writes| (0..arrays).map(move |edges| (writes, edges)))
 }

@@ -1,7 +1,7 @@
 //! The lemma of a query in conflict: the least pair, the path between its
 //! origins, and the literals along it.
 
-use crate::layers::Layers;
+use crate::layers::{after, Layers};
 use crate::query::{Edge, Guard, Query};
 use crate::reach::Reach;
 
@@ -48,34 +48,35 @@ pub fn least_pair(query: &Query, reach: &Reach) -> Option<(usize, usize)> {
 
 /// The path's edges (02, E6).
 fn path(query: &Query, index_value: u32, start: usize, goal: usize) -> Vec<&Edge> {
-    let layers = Layers::until(query, index_value, start, goal);
+    let (layers, mut distance) = Layers::until(query, index_value, start, goal);
     let mut place = start;
     let mut edges = Vec::new();
     while place != goal {
-        let (edge, next) = lowest_edge(query, index_value, place, &layers);
-        edges.push(edge);
+        let nearer = |edge: &Edge| layers.at(after(distance, edge.is_write()));
+        let (edge, next) = lowest_edge(query, index_value, place, nearer);
+        distance = after(distance, edge.is_write()).expect("the edge leads nearer");
         place = next;
+        edges.push(edge);
     }
     edges
 }
 
 /// "at each step the lowest-numbered open edge that lies on such a path", and
-/// where it leads.
-fn lowest_edge<'a>(
-    query: &'a Query,
+/// where it leads. Over an edge on such a path certain arrays are nearer.
+fn lowest_edge(
+    query: &Query,
     index_value: u32,
     place: usize,
-    layers: &Layers,
-) -> (&'a Edge, usize) {
+    nearer: impl Fn(&Edge) -> u64,
+) -> (&Edge, usize) {
     for edge in query.edges.iter().filter(|edge| query.is_open(edge, index_value)) {
-        let nearer = layers.nearer(place, edge.is_write());
         for (near, far) in [(0, 1), (1, 0)] {
-            if edge.ends[near] == place && nearer >> edge.ends[far] & 1 == 1 {
+            if edge.ends[near] == place && nearer(edge) >> edge.ends[far] & 1 == 1 {
                 return (edge, edge.ends[far]);
             }
         }
     }
-    unreachable!("an array other than the goal has a neighbour in a layer before its own");
+    unreachable!("an array other than the goal has a neighbour that is nearer");
 }
 
 /// The literal that an edge leaves on the path of a source with this index.
