@@ -96,6 +96,7 @@ extern "C" {
 #define ZUNIDELO_REFUSED 2
 
 /* Checks a query. In a conflict the first report[3] bytes of answer are the lemma; all others, and all in the other cases, stay.
+ * It is that of the way with the fewest writes, each of which costs a comparison, and among those the fewest steps (docs/FORMAT.md).
  * report: number, offset, pairs, length. */
 uint32_t zunidelo_check(const uint8_t *query, size_t query_len, uint8_t *answer, size_t answer_len, uint64_t report[4]);
 

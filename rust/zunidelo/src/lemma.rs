@@ -5,6 +5,8 @@ use std::fmt;
 
 /// What holds in every interpretation of the query's terms, and is false
 /// under its values: where all literals but the last are true, so is the last.
+/// Its path between the two sources has the fewest writes, each of which costs
+/// a comparison, and among those the fewest edges.
 #[derive(Debug, Clone, PartialEq, Eq, Hash)]
 pub struct Lemma {
     /// The literals in order; the last one, and no other, is the conclusion.
