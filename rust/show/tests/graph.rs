@@ -59,6 +59,16 @@ fn a_branch_that_is_not_chosen_is_dotted() {
 }
 
 #[test]
+fn the_path_goes_around_a_write_by_two_equalities() {
+    let graph = dot(&stored::query("around-a-write"));
+    assert!(line(&graph, "array2 -- array0").ends_with("base 1 = 2\"];"), "{graph}");
+    for (ends, edge) in [("array2 -- array1", 1), ("array1 -- array0", 2)] {
+        let bold = format!("edge {edge}: Boolean {} is true\", style=bold, penwidth=3];", edge - 1);
+        assert!(line(&graph, ends).ends_with(&bold), "{graph}");
+    }
+}
+
+#[test]
 fn a_refused_query_shows_what_comes_before_the_fault() {
     let graph = dot(&stored::query("K7"));
     assert!(graph.starts_with("graph query {\n  label=\"refused 9 at byte 110: an equality"));
@@ -74,5 +84,5 @@ fn every_lemma_of_the_stored_queries_has_its_path() {
             conflicts += 1;
         }
     }
-    assert!(conflicts >= 6, "K1, K3, K4, K5, K6 and K9");
+    assert!(conflicts >= 15, "K1, K3, K4, K5, K6, K9, and nine on which path is chosen");
 }
