@@ -1,10 +1,11 @@
 //! Whether all contenders answer the same. The second program is held to that
-//! in everything. An earlier library may have another lemma in a conflict, by
-//! another rule for its path: then its bytes and its clauses may be others,
-//! and nothing else.
+//! in everything. An earlier library may take another path in a conflict: then
+//! its lemma of the same pair may be another, and with it the clauses and what
+//! a buffer has room for, and nothing else.
 
 use crate::contenders::{Contest, Question, CONFLICT, NO_ROOM, REFUSED};
 use crate::libraries::{Answer, Check, Function};
+use judge::lemma::{Lemma, Literal};
 
 /// What one contender answers, and the question with its buffers afterwards.
 type Asked = (Answer, Question);
@@ -73,7 +74,8 @@ fn alike<C: Contest>(today: C, before: C, question: &Question) -> Alike {
     }
     let wide = question.clone().with_all_room();
     let (one, other) = (by(today, &wide), by(before, &wide));
-    let may_differ = has_another_lemma(question)
+    let lemmas = [Some(Check::TODAY), Check::BEFORE].map(|check| lemma_of(check?, question));
+    let may_differ = differ_by_their_paths(&lemmas)
         && but_for_the_lemma::<C>(&one, &other)
         && by(today, question) == in_room::<C>(one, question)
         && by(before, question) == in_room::<C>(other, question);
@@ -84,10 +86,15 @@ fn alike<C: Contest>(today: C, before: C, question: &Question) -> Alike {
     }
 }
 
-/// Whether the earlier check writes another lemma than today's.
-fn has_another_lemma(question: &Question) -> bool {
-    let before = Check::BEFORE.and_then(|check| lemma_of(check, question));
-    before.is_some() && before != lemma_of(Check::TODAY, question)
+/// Whether these are two lemmas of one pair: both have the same "equal", or
+/// none, and the same conclusion, and something else between.
+fn differ_by_their_paths(lemmas: &[Option<Lemma>; 2]) -> bool {
+    let [Some(one), Some(other)] = lemmas else { return false };
+    let equal = |lemma: &Lemma| match lemma.premise.first() {
+        Some(Literal::Equal(first, later)) => Some((*first, *later)),
+        _ => None,
+    };
+    one != other && one.conclusion == other.conclusion && equal(one) == equal(other)
 }
 
 /// Whether both are conflicts, with reports that differ in what the lemma
@@ -112,10 +119,11 @@ fn in_room<C: Contest>((answer, wide): Asked, question: &Question) -> Asked {
 }
 
 /// The lemma that a check writes; nothing where it answers no conflict.
-pub fn lemma_of(check: Check, question: &Question) -> Option<Vec<u8>> {
+pub fn lemma_of(check: Check, question: &Question) -> Option<Lemma> {
     let wide = question.clone().with_all_room();
     let ((returned, report), wide) = asked(|asked| check.library(asked), &wide);
-    (returned == CONFLICT).then(|| wide.bytes(Check::written(&report).bytes).to_vec())
+    let bytes = wide.bytes(Check::written(&report).bytes);
+    (returned == CONFLICT).then(|| Lemma::read(bytes).expect("a lemma is made of its fields"))
 }
 
 #[cfg(test)]
@@ -166,6 +174,22 @@ mod tests {
         }
         assert!(!may_stand::<Check>(|((returned, _), _)| *returned += 1));
         assert!(!may_stand::<Clauses>(|((returned, _), _)| *returned += 1));
+    }
+
+    #[test]
+    fn two_lemmas_differ_by_their_paths_alone() {
+        let lemma =
+            |premise: &[Literal], conclusion| Some(Lemma { premise: premise.to_vec(), conclusion });
+        let (equal, differ, holds) =
+            (Literal::Equal(0, 1), Literal::Differ(0, 2), Literal::True(0));
+        let today = || lemma(&[equal, holds], (3, 4));
+        let stands = |earlier| differ_by_their_paths(&[today(), earlier]);
+        assert!(stands(lemma(&[equal, differ], (3, 4))));
+        assert!(!stands(today()), "the same");
+        assert!(!stands(lemma(&[equal, differ], (3, 5))), "of another pair");
+        assert!(!stands(lemma(&[Literal::Equal(0, 2), differ], (3, 4))), "at other indices");
+        assert!(!stands(lemma(&[differ], (3, 4))), "at one index");
+        assert!(!stands(None), "no conflict");
     }
 
     #[test]

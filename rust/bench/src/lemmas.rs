@@ -6,10 +6,11 @@
 use crate::agreement::{assert_all_agree, lemma_of, Alike};
 use crate::contenders::{Contest, Question};
 use crate::libraries::{Check, Clauses, Function, Lookup};
-use judge::lemma::{Lemma, Literal};
+use judge::lemma::Literal;
 use judge::random::Random;
 use tester::bounds::{all_pairs, longest_detour, longest_lemma, many_paths, Links};
 use tester::cells::many_cells;
+use tester::rules::byte_count;
 use tester::shapes::SHAPES;
 use tester::ways::many_ways;
 
@@ -40,12 +41,12 @@ const COLUMNS: [&str; 4] = ["ne", "literals", "clauses", "bytes"];
 
 /// The cost of the lemma of a query in conflict, by one library.
 fn cost(check: Check, clauses: Clauses, question: &Question) -> Option<Cost> {
-    let bytes = lemma_of(check, question)?;
-    let lemma = Lemma::read(&bytes).expect("the lemma of a library");
-    let differ = |literal: &&Literal| matches!(literal, Literal::Differ(..));
-    let comparisons = lemma.premise.iter().filter(differ).count();
+    let lemma = lemma_of(check, question)?;
+    let is_comparison = |literal: &&Literal| matches!(literal, Literal::Differ(..));
+    let comparisons = lemma.premise.iter().filter(is_comparison).count();
     let (_, [_, _, _, clauses, _]) = clauses.library(&mut question.clone());
-    Some([comparisons as u64, lemma.premise.len() as u64 + 1, clauses, bytes.len() as u64])
+    let literals = lemma.premise.len() + 1;
+    Some([comparisons as u64, literals as u64, clauses, byte_count(&lemma) as u64])
 }
 
 /// The lemmas of some queries, by today's library and by the earlier one.
@@ -54,7 +55,10 @@ struct Totals {
     queries: usize,
     conflicts: usize,
     costs: [Cost; 2],
+    /// How many lemmas are others than before, and have then more comparisons,
+    /// fewer bytes or more bytes.
     others: usize,
+    more_comparisons: usize,
     shorter: usize,
     longer: usize,
 }
@@ -74,9 +78,10 @@ impl Totals {
         for (total, cost) in self.costs.iter_mut().zip(&costs) {
             add(total, cost);
         }
-        if let [[.., today], [.., before]] = costs[..] {
-            self.shorter += usize::from(today < before);
-            self.longer += usize::from(today > before);
+        if let [[comparisons, .., bytes], [comparisons_before, .., bytes_before]] = costs[..] {
+            self.more_comparisons += usize::from(comparisons > comparisons_before);
+            self.shorter += usize::from(bytes < bytes_before);
+            self.longer += usize::from(bytes > bytes_before);
         }
     }
 
@@ -84,6 +89,7 @@ impl Totals {
         self.queries += other.queries;
         self.conflicts += other.conflicts;
         self.others += other.others;
+        self.more_comparisons += other.more_comparisons;
         self.shorter += other.shorter;
         self.longer += other.longer;
         for (total, cost) in self.costs.iter_mut().zip(&other.costs) {
@@ -97,7 +103,8 @@ impl Totals {
             let before = before_column(self.costs[1][column]);
             print!("  {before}{:>9}", self.costs[0][column]);
         }
-        println!("{}", before_words(&[self.others, self.shorter, self.longer]));
+        let counts = [self.others, self.more_comparisons, self.shorter, self.longer];
+        println!("{}", before_words(&counts));
     }
 }
 
@@ -121,7 +128,7 @@ fn print_titles() {
     for column in COLUMNS {
         print!("  {}{column:>9}", before_column("before"));
     }
-    println!("{}", before_words(&["others", "shorter", "longer"]));
+    println!("{}", before_words(&["others", "more ne", "shorter", "longer"]));
 }
 
 /// Prints a line for each kind, of so many queries each, and one for all.
@@ -140,4 +147,18 @@ pub fn print(seed: u64, count: u64) {
     }
     all.print("all");
     println!("{} queries compared, by every call", all.queries);
+}
+
+#[cfg(test)]
+mod tests {
+    use super::*;
+    use second::verdict_lines;
+
+    #[test]
+    fn every_kind_has_conflicts() {
+        for (name, query) in kinds() {
+            let lines = |seed| verdict_lines(&query(&mut Random::new(seed)));
+            assert!((0..100).any(|seed| lines(seed).starts_with("conflict")), "{name}");
+        }
+    }
 }

@@ -10,6 +10,7 @@ use second::MAX_ARRAYS;
 /// What the two reads in conflict are at. The writes are at other indices,
 /// but for a few whose edge is closed, and they write what is there: 0.
 const INDEX: u32 = 1;
+const WRITE_INDEX: u32 = 4;
 
 /// How many arrays back an array joins on.
 const NEAR: usize = 4;
@@ -19,7 +20,8 @@ const NEAR: usize = 4;
 pub fn many_ways(random: &mut Random) -> Vec<u8> {
     let mut builder = Builder::default();
     let (index, witness_index, zero) = (builder.base(INDEX), builder.base(2), builder.base(0));
-    let mut write_indices: Vec<u16> = (2..4 + random.below(3)).map(|_| builder.base(4)).collect();
+    let mut write_indices: Vec<u16> =
+        (0..2 + random.below(3)).map(|_| builder.base(WRITE_INDEX)).collect();
     if random.chance(20) {
         write_indices.push(index);
     }
