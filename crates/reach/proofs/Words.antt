@@ -128,7 +128,7 @@ module _ {edges : List Edge} {words : List ℕ} (known : Adjacent edges words) w
       complete a b joined (inr new) = edge-here edge words (known .long) left-in right-in a b (subst (λ (e : Edge). Joins e a b) (List·Memᴰ·eq-of-singleton new) (joined .2))
 
 -- before the first edge there is nothing
-pub getD-zero : (n a : ℕ) → _≡_ {A = ℕ} (getD (replicate n 0) a 0) 0
+getD-zero : (n a : ℕ) → _≡_ {A = ℕ} (getD (replicate n 0) a 0) 0
 getD-zero zero a = refl
 getD-zero (suc n) zero = refl
 getD-zero (suc n) (suc a) = getD-zero n a

@@ -393,14 +393,12 @@ fn put_level<'a>(
     requires { ⌜ (level < 2 ^ 48) × Narrow (now cheap) × Narrow (now writes) × (length (now row) ≡ maxArrays) ⌝ }
     ensures { λ r. ⌜ LevelPut level entry (now (row .entry)) (now (row .exit)) × AheadOf (now (cheap .entry)) level (r .cheap) × AheadOf (now (writes .entry)) level (r .written) ⌝ }
 {
-    let mut done = 0u64;
+    let mut left = level;
     let mut near = 0u64;
     let mut far = 0u64;
-    while done != level {
-        let left = level ^ done;
+    while left != 0 {
         let a = u64::trailing_zeros(left) as usize;
-        let mark = 1u64 << a;
-        done = done | mark;
+        left = left & (left - 1);
         row[a] = entry;
         near = near | cheap[a];
         far = far | writes[a];
@@ -413,18 +411,18 @@ fn put_level<'a>(
 
 // The distances from one array term, each settled once: a level is what is met for the first time at one distance. Edges that are no writes
 // are walked as far as they lead; then one write further, from the levels in their order. What lies over the writes of a level waits with
-// its distance; where that is also the next distance over the other edges, both are one level.
+// its distance, in runs that are lent; where that is also the next distance over the other edges, both are one level.
 fn distances_from<'a>(
     cheap: &'a [u64; MAX_ARRAYS],
     writes: &'a [u64; MAX_ARRAYS],
     origin: usize,
+    waiting: &mut [u64],
+    distances: &mut [u16],
 ) -> [u8; MAX_ARRAYS]
-    requires { ⌜ (origin < maxArrays) × Narrow (now cheap) × Narrow (now writes) ⌝ }
+    requires { ⌜ (origin < maxArrays) × Narrow (now cheap) × Narrow (now writes) × (length (now waiting) ≡ maxArrays) × (length (now distances) ≡ maxArrays) ⌝ }
     ensures { λ r. ⌜ DistancesFrom (now (cheap .entry)) (now (writes .entry)) origin r ⌝ }
 {
     let mut row = [255u8; MAX_ARRAYS];
-    let mut waiting = [0u64; MAX_ARRAYS];
-    let mut distances = [0u16; MAX_ARRAYS];
     let mut seen = 1u64 << origin;
     let begun = put_level(cheap, writes, seen, 0, &mut row);
     let mut ahead = begun.cheap;
@@ -476,10 +474,12 @@ pub fn distances<'a>(
     let mut cheap = [0u64; MAX_ARRAYS];
     let mut writes = [0u64; MAX_ARRAYS];
     sort_edges(values, truths, edges, count, x, &mut cheap, &mut writes);
+    let mut waiting = [0u64; MAX_ARRAYS];
+    let mut distances = [0u16; MAX_ARRAYS];
     let mut table = [[255u8; MAX_ARRAYS]; MAX_ARRAYS];
     let mut a = 0;
     while a < arrays {
-        table[a] = distances_from(&cheap, &writes, a);
+        table[a] = distances_from(&cheap, &writes, a, &mut waiting, &mut distances);
         a += 1;
     }
     table
