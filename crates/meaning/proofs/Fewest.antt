@@ -5,16 +5,14 @@ use Prim.Native.Nat.{ℕ, suc, _+_, _*_, _<_, _≤_}
 use native.Mathlib.Nat.{le-refl}
 use native.Mathlib.Decide.{decLt}
 use native.Mathlib.Omega.{arith}
-use mathlib.Core.Path.{_≡_, refl, sym, ap, _∙_, subst}
+use mathlib.Core.Path.{_≡_, refl, sym, ap, subst}
 use mathlib.Core.Bool.{Bool, true, false, cond}
 use mathlib.Core.List.{List, [], _∷_, _++_, List·Memᴰ·head, Memᴰ·append-right, nil≢cons, head-eq-of-cons-eq, tail-eq-of-cons-eq}
-use mathlib.Core.Option.{some}
 use lib.ListN.{length}
 use Rattle.paper.specs.Lists.{_∈_}
 use Rattle.paper.specs.Edges.{Guard, Edge}
 use Rattle.paper.specs.Reach.{Joins, Walk, stay, step, costs, isWrite, writes, stepCost}
 use Rattle.meaning.proofs.Walks.{shorten, Ranged, joins-below, simple-short}
-use Rattle.meaning.proofs.Distances.{entry, entry-inside}
 use Rattle.meaning.proofs.Paths.{Nearer, Lowest}
 use Rattle.meaning.proofs.Paths as Paths
 
@@ -128,18 +126,3 @@ module _ (among : List Edge) (n goal : ℕ) (ranged : Ranged n among) (few : n �
       (λ other earlier begins. none-before other earlier (begins-nearer other inside begins))
       joined
       (lowest-stepwise (joins-below ranged edge here joined) rest)
-
-  -- the entries of the table are those of such walks: 48 times the writes, plus the edges
-  pub entry-fewest : {a d : ℕ} → entry stepCost among n goal n a ≡ some d
-      → (walked : List Edge) × Fewest among goal a walked × (d ≡ 48 * writes walked + length walked)
-  entry-fewest e =
-      let known = Paths.entry-is-least stepCost among n goal ranged e in (
-        known .walked,
-        least-fewest (entry-inside stepCost among n goal n e) (known .way) (λ other there. omega (arith, known .least other there, known .total)),
-        sym (known .total) ∙ cost-is (known .walked),
-      )
-
-  pub fewest-entry : {a : ℕ} {walked : List Edge} → a < n → Fewest among goal a walked → entry stepCost among n goal n a ≡ some (48 * writes walked + length walked)
-  fewest-entry {a} {walked} inside best =
-      Paths.least-is-entry stepCost among n goal ranged inside
-      (record { walked = walked; way = best .way; total = cost-is walked; least = λ other there. omega (arith, fewest-least inside best other there, cost-is walked) })

@@ -10,6 +10,7 @@ pub mod Parts
 pub mod Values
 pub mod Links
 pub mod Levels
+pub mod Search
 pub mod Sorting
 pub mod Counted
 pub mod Paper

@@ -10,7 +10,7 @@ use lib.Bits.{bitXor, xor-lt, xor-self}
 use lib.Pow.{pow-lt}
 use Rattle.reach.proofs.Bits.{one-shifted, xor-some}
 use Rattle.reach.proofs.Spreading.{marks-most}
-use Rattle.reach.proofs.Levels.{Searching, search-begun, search-ended, Next, next-on, next-waits, Meeting, meet-ahead, meet-both, met-nothing, some-room, met-level}
+use Rattle.reach.proofs.Search.{Searching, search-begun, search-ended, Next, next-on, next-waits, Meeting, meet-ahead, meet-both, met-nothing, some-room, met-level}
 use Rattle.reach.proofs.distances_from.Statement.{statement}
 use Rattle.reach.proofs.distances_from.Tie as tie
 
