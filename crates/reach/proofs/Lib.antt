@@ -10,7 +10,8 @@ pub mod Parts
 pub mod Values
 pub mod Links
 pub mod Levels
-pub mod Search
+pub mod Settling
+pub mod Meeting
 pub mod Sorting
 pub mod Counted
 pub mod Paper

@@ -1,4 +1,4 @@
--- `reach::distances` meets its contract: each row has the distances from its array term, and those are the paper's. The measure is what is left of the array terms.
+-- `reach::search::distances` meets its contract: each row has the distances from its array term, and those are the paper's. The measure is what is left of the array terms.
 -- Assumes nothing.
 use Prim.Native.Nat.{ℕ, _-_, _<_, _≤_}
 use native.Mathlib.Omega.{arith}
@@ -9,8 +9,8 @@ use Rattle.reach.specs.Reached.{openTo}
 use Rattle.reach.specs.Steps.{DistancesFrom}
 use Rattle.reach.proofs.Counted.{distance-is, distances-put}
 use Rattle.reach.proofs.Words.{lent-ends, lent-most}
-use Rattle.reach.proofs.distances.Statement.{statement}
-use Rattle.reach.proofs.distances.Tie as tie
+use Rattle.reach.proofs.search.distances.Statement.{statement}
+use Rattle.reach.proofs.search.distances.Tie as tie
 
 abbrev Inv-loop : tie.InvT-loop
 Inv-loop values truths edges count x arrays cheap writes waiting₀ distances₀ table₀ a₀ waiting distances table a =
