@@ -14,7 +14,8 @@ use Rattle.paper.specs.Edges.{Guard, Edge}
 use Rattle.paper.specs.Reach.{near, stepCost}
 use Rattle.paper.specs.Lemma.{pathFrom}
 use Rattle.terms.specs.Graph.{openOf, openIn, Each}
-use Rattle.reach.specs.Reached.{openTo, reachedIn, entryOf, Distances}
+use Rattle.reach.specs.Reached.{openTo, reachedIn}
+use Rattle.costs.specs.Distances.{entryOf, Distances}
 use Rattle.reach.specs.Steps.{EndsBelow, Lent}
 use Rattle.reach.proofs.Words.{open-each}
 use Rattle.lemma.specs.Steps.{tableOf, waysAt, isThere, firstOf, edgeAt, opened, Ends, Asked, PathOf}

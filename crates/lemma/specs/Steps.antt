@@ -13,7 +13,8 @@ use Rattle.paper.specs.Edges.{Guard, Edge}
 use Rattle.paper.specs.Reach.{across, near, stepCost}
 use Rattle.paper.specs.Lemma.{pathFrom}
 use Rattle.terms.specs.Graph.{openIn}
-use Rattle.reach.specs.Reached.{entryOf, reachedIn}
+use Rattle.reach.specs.Reached.{reachedIn}
+use Rattle.costs.specs.Distances.{entryOf}
 
 -- the rows of edges that are lent, with the guess that opens them
 pub record EdgeTable : Type 0 where

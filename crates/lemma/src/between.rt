@@ -29,7 +29,7 @@ fn path_between<'a>(
     if from == goal {
         return 0;
     }
-    let distances = reach::distances(values, truths, edges, ways, x, arrays);
+    let distances = costs::distances(values, truths, edges, ways, x, arrays);
     least_path(
         values,
         truths,

@@ -1,11 +1,11 @@
 // The path (02, E6): of the fewest writes, and among those of the fewest edges, found by comparing distances.
+use costs::ENTRIES;
+use costs::WRITE_COST;
 use paper::DIFFER;
 use paper::MAX_ARRAYS;
 use paper::MAX_BASES;
 use paper::MAX_BOOLEANS;
 use paper::MAX_EDGES;
-use reach::ENTRIES;
-use reach::WRITE_COST;
 use terms::graph::left_of;
 use terms::graph::open_way;
 use terms::graph::other_of;

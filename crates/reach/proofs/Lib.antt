@@ -9,9 +9,4 @@ pub mod Rows
 pub mod Parts
 pub mod Values
 pub mod Links
-pub mod Levels
-pub mod Settling
-pub mod Meeting
-pub mod Sorting
-pub mod Counted
 pub mod Paper

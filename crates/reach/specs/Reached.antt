@@ -1,10 +1,10 @@
--- 01, Sources, edges, reach, over the open edges and the sources that the lent rows say: what a row, a pair count, a link and a distance are to be.
+-- 01, Sources, edges, reach, over the open edges and the sources that the lent rows say: what a row, a pair count and a link are to be.
 -- Assumes nothing.
 use Prim.Native.Nat.{ℕ, _+_, _*_, _/_, _%_, _^_, _<_, _≤_}
 use mathlib.Core.Path.{_≡_}
 use mathlib.Core.Bool.{Bool, cond}
 use mathlib.Core.List.{List, [], _∷_, map}
-use mathlib.Core.Option.{Option, none, some}
+use mathlib.Core.Option.{none}
 use lib.ListN.{getD, take}
 use Rattle.paper.specs.Sizes.{maxArrays, maxSources}
 use Rattle.paper.specs.Lists.{_∈_, isSome, count, sum, range, concatMap}
@@ -97,12 +97,3 @@ pub record Marked (e : Edges) (s : Sources) (n : ℕ) (words links : List ℕ) (
   pub pairs : total ≡ sum (map (pairsOf e s n) (range 0 (s .count)))
   pub rows : (k : ℕ) → k < s .count → RowOf e n (valueAt s k) (originAt s k) (getD words k 0)
   pub next : (k : ℕ) → k < s .count → NextOf s k (getD links k 0)
-
--- a distance as the table holds it, by its last seven bits; 255 where there is no walk
-abbrev pub entryOf : Option ℕ → ℕ
-entryOf none = 255
-entryOf (some distance) = distance % 128
-
--- The distances of an index value: at a and b, the least cost of a walk from a to b
-abbrev pub Distances : Edges → (x n : ℕ) (table : List (List ℕ)) → Type 0
-Distances e x n table = (a b : ℕ) → a < n → b < n → getD (getD table a []) b 0 ≡ entryOf (getD (near stepCost (e x) n b n) a none)

@@ -1,12 +1,10 @@
-// Marks: which array terms each source reaches over the edges open to its index value, how many pairs that makes, and distances.
-mod search;
+// Marks: which array terms each source reaches over the edges open to its index value, and how many pairs that makes.
 
 use paper::MAX_ARRAYS;
 use paper::MAX_BASES;
 use paper::MAX_BOOLEANS;
 use paper::MAX_EDGES;
 use paper::MAX_SOURCES;
-pub use search::distances;
 use terms::graph::index_value;
 use terms::graph::left_of;
 use terms::graph::open_way;
@@ -34,11 +32,6 @@ pub const ROW_PARTS: usize = 3;
 pub const MAX_ROWS: usize = 302;
 
 pub const MAX_PARTS: usize = MAX_ROWS * ROW_PARTS;
-
-// What a step over a write costs, where any other costs 1; and how many distances the table of distances tells apart.
-pub const WRITE_COST: u16 = 49;
-
-pub const ENTRIES: u16 = 128;
 
 // The row of source k, and its store: whoever reads or writes a row does it here.
 pub fn row(rows: &[u16], k: usize) -> u64
@@ -81,7 +74,7 @@ fn set_bit(words: &mut [u64; MAX_ARRAYS], a: usize, b: usize, on: bool)
 }
 
 // Puts an edge into the words of both its ends, or takes it out: it can be walked both ways.
-fn set_edge(words: &mut [u64; MAX_ARRAYS], left: usize, right: usize, on: bool)
+pub fn set_edge(words: &mut [u64; MAX_ARRAYS], left: usize, right: usize, on: bool)
     requires { ⌜ (left < maxArrays) × (right < maxArrays) ⌝ }
     ensures { λ r. ⌜ now (words .exit) ≡ edgeSet on left right (now (words .entry)) ⌝ }
 {

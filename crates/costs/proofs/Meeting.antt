@@ -12,12 +12,13 @@ use lib.Bits.{bitOr, bitXor, or-lt, xor-lt}
 use lib.Count.{trailingZeros}
 use lib.ListN.{length, getD, set, length-set}
 use lib.Pow.{pow-pos}
 use Rattle.reach.specs.Reached.{bit}
-use Rattle.reach.specs.Steps.{Route, along, over, has, marks, LevelPut, AheadOf}
+use Rattle.reach.specs.Steps.{has, marks}
+use Rattle.costs.specs.Levels.{Route, along, over, LevelPut, AheadOf}
 use Rattle.reach.proofs.Bits.{bit-cases, bit-zero, bit-below, or-left, or-right, or-either, pow-other, xor-bit, xor-has, xor-some, trailing-bit}
 use Rattle.reach.proofs.Spreading.{marks-more, marks-within, marks-most}
 use Rattle.reach.proofs.Values.{put-at, put-else}
-use Rattle.reach.proofs.Settling.{Within, Waits, Searching}
+use Rattle.costs.proofs.Settling.{Within, Waits, Searching}
 
 -- a word that has all of another, and something new, has more marks
 one-more : (seen met : ℕ) → met < 2 ^ 48 → seen < 2 ^ 48 → ((b : ℕ) → bit seen b ≡ 1 → bit met b ≡ 1) → (seen ≡ met → ⊥) → marks seen < marks met

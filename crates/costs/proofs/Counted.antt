@@ -16,9 +16,10 @@ use Rattle.meaning.proofs.Lists.{keep-in, keep-has}
 use Rattle.meaning.proofs.Walks.{walk-on}
 use Rattle.meaning.proofs.Distances.{entry-walk}
 use Rattle.meaning.proofs.Paths.{least-is-entry}
-use Rattle.reach.specs.Reached.{Edges, Ends, entryOf}
-use Rattle.reach.specs.Steps.{Route, home, along, over, Sorted, DistancesFrom}
+use Rattle.reach.specs.Reached.{Edges, Ends}
+use Rattle.costs.specs.Distances.{entryOf}
+use Rattle.costs.specs.Levels.{Route, home, along, over, Sorted, DistancesFrom}
 use Rattle.reach.proofs.Rows.{open-ranged}
 
 -- what one edge more costs
 costs-on : (walked : List Edge) (edge : Edge) → costs stepCost (walked ++ (edge ∷ [])) ≡ costs stepCost walked + stepCost (edge .guard)

@@ -1,19 +1,24 @@
 // The distances between array terms (02, E6): what the cheapest walk costs, a write 49 and any other edge 1. Each array term is settled once.
-use crate::ENTRIES;
-use crate::WRITE_COST;
-use crate::set_edge;
 use paper::DIFFER;
 use paper::MAX_ARRAYS;
 use paper::MAX_BASES;
 use paper::MAX_BOOLEANS;
 use paper::MAX_EDGES;
+use reach::set_edge;
 use terms::graph::open_way;
 ghost use mathlib.Core.Path.{_≡_};
 ghost use Prim.Native.Nat.{_^_, _<_};
 ghost use lib.ListN.{length, replicate};
 ghost use Rattle.paper.specs.Sizes.{maxArrays};
-ghost use Rattle.reach.specs.Reached.{openTo, Distances};
-ghost use Rattle.reach.specs.Steps.{Lent, Sorted, Narrow, LevelPut, AheadOf, DistancesFrom};
+ghost use Rattle.reach.specs.Reached.{openTo};
+ghost use Rattle.reach.specs.Steps.{Lent};
+ghost use Rattle.costs.specs.Distances.{Distances};
+ghost use Rattle.costs.specs.Levels.{Sorted, Narrow, LevelPut, AheadOf, DistancesFrom};
+
+// What a step over a write costs, where any other costs 1; and how many distances the table of distances tells apart.
+pub const WRITE_COST: u16 = 49;
+
+pub const ENTRIES: u16 = 128;
 
 // Puts the open edges into words as adjacency does: those of writes into the one, all others into the other; both come cleared.
 fn sort_edges<'a>(

@@ -1,4 +1,4 @@
--- `reach::search::distances_from` meets its contract: at each turn what is seen is settled at its least distance, and what lies beyond is ahead or waits. Each turn
+-- `costs::distances_from` meets its contract: at each turn what is seen is settled at its least distance, and what lies beyond is ahead or waits. Each turn
 -- puts a level or takes one that waits, and there are at most 48 of each; the measure is what is left of both.
 -- Assumes nothing.
 use Prim.Native.Nat.{ℕ, _+_, _-_, _<_}
@@ -8,12 +8,12 @@ use mathlib.Core.Path.{_≡_, refl, sym, ap, _∙_}
 use mathlib.Core.Logic.{⊎-elim}
 use lib.Bits.{bitXor, xor-lt, xor-self}
 use lib.Pow.{pow-lt}
 use Rattle.reach.proofs.Bits.{one-shifted, xor-some}
 use Rattle.reach.proofs.Spreading.{marks-most}
-use Rattle.reach.proofs.Settling.{Searching, search-begun, search-ended}
-use Rattle.reach.proofs.Meeting.{Next, next-on, next-waits, Meeting, meet-ahead, meet-both, met-nothing, some-room, met-level}
-use Rattle.reach.proofs.search.distances_from.Statement.{statement}
-use Rattle.reach.proofs.search.distances_from.Tie as tie
+use Rattle.costs.proofs.Settling.{Searching, search-begun, search-ended}
+use Rattle.costs.proofs.Meeting.{Next, next-on, next-waits, Meeting, meet-ahead, meet-both, met-nothing, some-room, met-level}
+use Rattle.costs.proofs.distances_from.Statement.{statement}
+use Rattle.costs.proofs.distances_from.Tie as tie
 
 abbrev Inv-loop : tie.InvT-loop
 Inv-loop cheap writes origin waiting₀ distances₀ row₀ seen₀ ahead₀ distance₀ put₀ taken₀ waiting distances row seen ahead distance put taken =

@@ -13,8 +13,9 @@ use Rattle.paper.specs.Reach.{isWrite}
 use Rattle.terms.specs.Tables.{edgesIn}
 use Rattle.terms.specs.declared.graph.Way.{Way}
 use Rattle.terms.specs.Graph.{openIn, guardOf, wayEdges, Each}
-use Rattle.reach.specs.Steps.{Adjacent, EndsBelow, withEdge, Sorted}
+use Rattle.reach.specs.Steps.{Adjacent, EndsBelow, withEdge}
+use Rattle.costs.specs.Levels.{Sorted}
 use Rattle.reach.proofs.Words.{none-more, one-more, rows-more, way-none, way-edge, way-ends}
 
 keep-append : {A : Type 0} (test : A → Bool) (xs ys : List A) → keep test (xs ++ ys) ≡ keep test xs ++ keep test ys
 keep-append test [] ys = refl

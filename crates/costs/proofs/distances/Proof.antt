@@ -1,16 +1,16 @@
--- `reach::search::distances` meets its contract: each row has the distances from its array term, and those are the paper's. The measure is what is left of the array terms.
+-- `costs::distances` meets its contract: each row has the distances from its array term, and those are the paper's. The measure is what is left of the array terms.
 -- Assumes nothing.
 use Prim.Native.Nat.{ℕ, _-_, _<_, _≤_}
 use native.Mathlib.Omega.{arith}
 use mathlib.Core.List.{[]}
 use mathlib.Core.Path.{_≡_, refl, sym, _∙_}
 use lib.ListN.{length, getD, length-set}
 use Rattle.reach.specs.Reached.{openTo}
-use Rattle.reach.specs.Steps.{DistancesFrom}
-use Rattle.reach.proofs.Counted.{distance-is, distances-put}
+use Rattle.costs.specs.Levels.{DistancesFrom}
+use Rattle.costs.proofs.Counted.{distance-is, distances-put}
 use Rattle.reach.proofs.Words.{lent-ends, lent-most}
-use Rattle.reach.proofs.search.distances.Statement.{statement}
-use Rattle.reach.proofs.search.distances.Tie as tie
+use Rattle.costs.proofs.distances.Statement.{statement}
+use Rattle.costs.proofs.distances.Tie as tie
 
 abbrev Inv-loop : tie.InvT-loop
 Inv-loop values truths edges count x arrays cheap writes waiting₀ distances₀ table₀ a₀ waiting distances table a =

@@ -1,4 +1,4 @@
--- `reach::search::sort_edges` meets its contract: after k rows the words join what the open edges of the first k rows join, writes and others apart.
+-- `costs::sort_edges` meets its contract: after k rows the words join what the open edges of the first k rows join, writes and others apart.
 -- Assumes nothing.
 use Prim.Native.Nat.{ℕ, _+_, _-_, _<_, _≤_}
 use native.Mathlib.Omega.{arith}
@@ -9,11 +9,12 @@ use borrow.Author.Needs.{needs}
 use lib.ListN.{length, getD, take}
 use Rattle.paper.specs.Lists.{concatMap}
 use Rattle.terms.specs.Graph.{openIn}
-use Rattle.reach.specs.Steps.{Adjacent, Sorted}
+use Rattle.reach.specs.Steps.{Adjacent}
+use Rattle.costs.specs.Levels.{Sorted}
 use Rattle.reach.proofs.Words.{no-edges, way-ends}
-use Rattle.reach.proofs.Sorting.{sorted}
-use Rattle.reach.proofs.search.sort_edges.Statement.{statement}
-use Rattle.reach.proofs.search.sort_edges.Tie as tie
+use Rattle.costs.proofs.Sorting.{sorted}
+use Rattle.costs.proofs.sort_edges.Statement.{statement}
+use Rattle.costs.proofs.sort_edges.Tie as tie
 
 abbrev Inv-loop : tie.InvT-loop
 Inv-loop values truths edges count x cheap₀ writes₀ k₀ cheap writes k = (k ≤ count) × Sorted (concatMap (openIn values truths x) (take k edges)) cheap writes

@@ -9,11 +9,12 @@ use mathlib.Core.List.{List}
 use lib.Bits.{or-zero-l}
 use lib.ListN.{length, getD, set, replicate, length-set, getD-replicate}
 use lib.Pow.{pow-lt}
 use Rattle.reach.specs.Reached.{bit}
-use Rattle.reach.specs.Steps.{Route, home, along, over, marks, LevelPut, AheadOf, DistancesFrom}
+use Rattle.reach.specs.Steps.{marks}
+use Rattle.costs.specs.Levels.{Route, home, along, over, LevelPut, AheadOf, DistancesFrom}
 use Rattle.reach.proofs.Bits.{bit-cases, bit-zero, pow-bit, pow-other}
 use Rattle.reach.proofs.Spreading.{marks-more}
 use Rattle.reach.proofs.Values.{put-at}
 
 -- settled, and at no more than a distance
 abbrev pub Within : (seen : ℕ) (settled : ℕ → ℕ) (most b : ℕ) → Type 0
