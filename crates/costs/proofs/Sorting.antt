@@ -12,18 +12,11 @@ use Rattle.paper.specs.Edges.{Guard, Edge}
 use Rattle.paper.specs.Reach.{isWrite}
 use Rattle.terms.specs.Tables.{edgesIn}
 use Rattle.terms.specs.declared.graph.Way.{Way}
+use Rattle.terms.proofs.Ways.{keep-append}
 use Rattle.terms.specs.Graph.{openIn, guardOf, wayEdges, Each}
 use Rattle.reach.specs.Steps.{Adjacent, EndsBelow, withEdge}
 use Rattle.costs.specs.Levels.{Sorted}
 use Rattle.reach.proofs.Words.{none-more, one-more, rows-more, way-none, way-edge, way-ends}
-
-keep-append : {A : Type 0} (test : A → Bool) (xs ys : List A) → keep test (xs ++ ys) ≡ keep test xs ++ keep test ys
-keep-append test [] ys = refl
-keep-append {A} test (x ∷ xs) ys = go (test x) (keep-append test xs ys)
-  where
-    go : (b : Bool) → keep test (xs ++ ys) ≡ keep test xs ++ keep test ys → cond b (x ∷ keep test (xs ++ ys)) (keep test (xs ++ ys)) ≡ cond b (x ∷ keep test xs) (keep test xs) ++ keep test ys
-    go true below = ap (λ (rest : List A). x ∷ rest) below
-    go false below = below
 
 -- a way's edge is a write by its tag
 abbrev edgeOf : Way → Edge

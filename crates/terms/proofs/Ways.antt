@@ -61,7 +61,7 @@ edge-within c (Term.conditional own chooser ifTrue ifFalse) names inside = omega
 edge-within c (Term.read own from index) names inside = tt
 edge-within c (Term.equality own left right leftWitness rightWitness) names inside = omega arith
 
-keep-append : {A : Type 0} (test : A → Bool) (xs ys : List A) → keep test (xs ++ ys) ≡ keep test xs ++ keep test ys
+pub keep-append : {A : Type 0} (test : A → Bool) (xs ys : List A) → keep test (xs ++ ys) ≡ keep test xs ++ keep test ys
 keep-append test [] ys = refl
 keep-append {A} test (x ∷ xs) ys = go (test x) (keep-append test xs ys)
   where

@@ -1,6 +1,6 @@
 -- `costs::sort_edges` meets its contract: after k rows the words join what the open edges of the first k rows join, writes and others apart.
 -- Assumes nothing.
-use Prim.Native.Nat.{ℕ, _+_, _-_, _<_, _≤_}
+use Prim.Native.Nat.{ℕ, _-_, _<_, _≤_}
 use native.Mathlib.Omega.{arith}
 use mathlib.Core.Path.{_≡_, sym, _∙_, subst}
 use mathlib.Core.Logic.{⊎-elim}
@@ -67,7 +67,6 @@ loop-again c =
     let i = o .before .before in
     let h = i .before .loop in
     let s = i .before .before in
-    let upto = concatMap (openIn (s .args .values .now) (s .args .truths .now) (s .args .x)) (take (h .k + 1) (s .args .edges .now)) in
     let way = o .open-way .result in
     let by = sorted (s .args .values .now) (s .args .truths .now) (s .args .x) (s .args .edges .now) (h .k) (inside i) way (o .open-way .ensures) (h .cheap) (h .writes) (h .inv .1) (s .pre .0 .ends (h .k) (i .loop-test .taken)) in (
       omega (arith, i .loop-test .taken),
