@@ -81,11 +81,14 @@ placed (more {query} built kind numbers shaped unmet) before after term e = go (
     go (inl (here, this)) below = rw (here, this) (next-placed query (counted built .0) (counted built .1) kind shaped (faultless query kind numbers unmet))
     go (inr (rest, there)) below =
         let (named, own, witnessed) = below rest there in
-        (named, own, witnessed-kept term (assigned (query .guess)) (assigned (extend query kind numbers .guess)) (λ t among. among) truths values named witnessed)
+        (named, own, witnessed-kept term (assigned (query .guess)) (assigned (extend query kind numbers .guess)) (λ t among. among) truths own-value values named witnessed)
       where
         -- what the guess gives to the terms before stays
         truths : series term ≡ boolean → getD (query .guess .truths ++ map (eqb 1) (eachPart asTruth (parts kind) numbers)) (ownNumber term) false ≡ getD (query .guess .truths) (ownNumber term) false
         truths bool = List·getD-append (query .guess .truths) (map (eqb 1) (eachPart asTruth (parts kind) numbers)) false (ownNumber term) (rw (counted built .1, ← bool, there, below rest there .1) (given-next before rest term))
+
+        own-value : series term ≡ base → getD (query .guess .values ++ eachPart asValue (parts kind) numbers) (ownNumber term) 0 ≡ getD (query .guess .values) (ownNumber term) 0
+        own-value is-base = List·getD-append (query .guess .values) (eachPart asValue (parts kind) numbers) 0 (ownNumber term) (rw (counted built .0, ← is-base, there, below rest there .1) (given-next before rest term))
 
         values : (b : ℕ) → b < given base before → getD (query .guess .values ++ eachPart asValue (parts kind) numbers) b 0 ≡ getD (query .guess .values) b 0
         values b h = List·getD-append (query .guess .values) (eachPart asValue (parts kind) numbers) 0 b (rw (counted built .0) (omega (arith, given-grows base before (term ∷ rest) there)))
@@ -123,4 +126,4 @@ module _ {w : ℕ} {query : Query} (accepted-query : Accepted w query) {term : T
   witnessed =
       let (before, after, split) = split-in here in
       let (named, own, seen) = accepted-query .each before after term split in
-      witnessed-kept term (assigned (query .guess)) (assigned (query .guess)) (λ t among. rw split (Memᴰ·append-left (term ∷ after) among)) (λ bool. refl) (λ b h. refl) named seen
+      witnessed-kept term (assigned (query .guess)) (assigned (query .guess)) (λ t among. rw split (Memᴰ·append-left (term ∷ after) among)) (λ bool. refl) (λ is-base. refl) (λ b h. refl) named seen

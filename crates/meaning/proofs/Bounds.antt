@@ -8,14 +8,14 @@ use mathlib.Core.Bool.{Bool, true, false, cond}
 use mathlib.Core.List.{List, [], _∷_, _++_, map}
 use lib.Dec.{eqb}
 use lib.ListN.{length, length-append, length-map}
-use Rattle.paper.specs.Lists.{any, count, sum, range}
+use Rattle.paper.specs.Lists.{any, keep, count, sum, range}
 use Rattle.paper.specs.Fields.{array}
 use Rattle.paper.specs.Terms.{Term, given, Query, Assignment, assigned}
 use Rattle.paper.specs.Edges.{Source, sources, indexNumber, Guard, Edge}
 use Rattle.paper.specs.Reach.{reaches, pairs}
 use Rattle.paper.specs.Conflict.{Pair}
-use Rattle.paper.specs.Lemma.{Literal, literalOf, sameLiteral, onceAfter, equalIndices, hypotheses, path, lemma}
-use Rattle.meaning.proofs.Lists.{range-length, count-append}
+use Rattle.paper.specs.Lemma.{Literal, literalOf, sameLiteral, onceAfter, equalIndices, hypotheses, stays, path, lemma}
+use Rattle.meaning.proofs.Lists.{keep-shorter, keep-fewer, range-length, count-append}
 use Rattle.meaning.proofs.Counts.{isEqual}
 use Rattle.meaning.proofs.Accepted.{Accepted}
 use Rattle.meaning.proofs.Sources.{sources-bound, arrays-bound}
@@ -69,17 +69,18 @@ equal-most i j = go (eqb i j)
     go true = omega arith
     go false = omega arith
 
--- the literals of a walk: "equal", one for each edge, and the conclusion, at most
-pub walk-literals : (s t : Source) (walked : List Edge)
-    → length (hypotheses (indexNumber (s .place)) (indexNumber (t .place)) walked ++ (Literal.conclusion (s .value) (t .value) ∷ [])) ≤ length walked + 2
+-- the literals of a walk that a test keeps: "equal", one for each edge, and the conclusion, at most
+pub walk-literals : (test : Literal → Bool) (s t : Source) (walked : List Edge)
+    → length (keep test (hypotheses (indexNumber (s .place)) (indexNumber (t .place)) walked) ++ (Literal.conclusion (s .value) (t .value) ∷ [])) ≤ length walked + 2
 unfolding hypotheses
-walk-literals s t walked =
+walk-literals test s t walked =
     let i = indexNumber (s .place) in
     let j = indexNumber (t .place) in
     let raw = equalIndices i j ++ map (λ (edge : Edge). literalOf i (edge .guard)) walked in
     omega (
       arith,
-      length-append (onceAfter [] raw) (Literal.conclusion (s .value) (t .value) ∷ []),
+      length-append (keep test (onceAfter [] raw)) (Literal.conclusion (s .value) (t .value) ∷ []),
+      keep-shorter test (onceAfter [] raw),
       once-shorter [] raw,
       length-append (equalIndices i j) (map (λ (edge : Edge). literalOf i (edge .guard)) walked),
       length-map walked (λ (edge : Edge). literalOf i (edge .guard)),
@@ -96,7 +97,8 @@ module _ (terms : List Term) (g : Assignment) (pair : Pair) where
       let raw = equalIndices i j ++ map (λ (edge : Edge). literalOf i (edge .guard)) (path terms g pair) in
       omega (
         arith,
-        count-append isEqual (onceAfter [] raw) (Literal.conclusion (pair .first .value) (pair .later .value) ∷ []),
+        count-append isEqual (keep (stays terms) (onceAfter [] raw)) (Literal.conclusion (pair .first .value) (pair .later .value) ∷ []),
+        keep-fewer (stays terms) isEqual (onceAfter [] raw),
         once-fewer isEqual [] raw,
         count-append isEqual (equalIndices i j) (map (λ (edge : Edge). literalOf i (edge .guard)) (path terms g pair)),
         count-most isEqual (equalIndices i j),
@@ -115,4 +117,4 @@ module _ (terms : List Term) (g : Assignment) (pair : Pair) where
 
   pub literals-bound : length (path terms g pair) < given array terms → given array terms ≤ 48 → length (lemma terms g pair) ≤ 49
   unfolding lemma
-  literals-bound short few = omega (arith, walk-literals (pair .first) (pair .later) (path terms g pair))
+  literals-bound short few = omega (arith, walk-literals (stays terms) (pair .first) (pair .later) (path terms g pair))

@@ -17,6 +17,7 @@ use Rattle.paper.specs.Edges.{Place, at, indexNumber, covers, Source, sources}
 use Rattle.paper.specs.Reach.{indexValue, reachesAt, reaches}
 use Rattle.paper.specs.Model.{valueGiven, model}
 use Rattle.paper.specs.Cells.{Cell, cellOf, place, placeAll, cells}
+use Rattle.meaning.proofs.Lists.{keep-shorter}
 
 -- a cell that is placed makes the cells at most one more
 pub place-few : (cell : Cell) (placed : List Cell) → length (place cell placed) ≤ suc (length placed)
@@ -31,15 +32,6 @@ place-few cell (other ∷ later) = go (ltb (cell .index) (other .index)) (eqb (c
 all-few : (placed some-cells : List Cell) → length (placeAll placed some-cells) ≤ length placed + length some-cells
 all-few placed [] = omega arith
 all-few placed (cell ∷ later) = omega (arith, all-few (place cell placed) later, place-few cell placed)
-
--- what is kept is at most all
-keep-few : {A : Type 0} (test : A → Bool) (xs : List A) → length (keep test xs) ≤ length xs
-keep-few test [] = omega arith
-keep-few test (x ∷ xs) = go (test x) (keep-few test xs)
-  where
-    go : (b : Bool) → length (keep test xs) ≤ length xs → length (cond b (x ∷ keep test xs) (keep test xs)) ≤ suc (length xs)
-    go true below = omega arith
-    go false below = omega arith
 
 -- the indices strictly ascend: each is below all that come after it
 abbrev pub Ascend : List Cell → Type 0
@@ -217,4 +209,4 @@ module _ (terms : List Term) (g : Assignment) (a : ℕ) where
   unfolding cells
   cells-few =
       let kept = keep (λ source. reaches terms g source a) (sources terms) in
-      omega (arith, all-few [] (map (cellOf g) kept), length-map kept (cellOf g), keep-few (λ source. reaches terms g source a) (sources terms))
+      omega (arith, all-few [] (map (cellOf g) kept), length-map kept (cellOf g), keep-shorter (λ source. reaches terms g source a) (sources terms))

@@ -26,6 +26,7 @@ use Rattle.meaning.proofs.Fewest.{Fewest, Stepwise, least-fewest, lowes
 use Rattle.meaning.proofs.Given.{Numbered, GuardGiven, SourceGiven, edge-given, source-given, open-ranged, open-is-edge}
 use Rattle.meaning.proofs.Reach.{reached-walk}
 use Rattle.meaning.proofs.Literals.{hypothesis-is, not-conclusion, Within}
+use Rattle.meaning.proofs.Fixed.{of-whole}
 
 -- "the least first source s that stands in a pair with a later one, and with it the least later source t"
 pub record Taken (terms : List Term) (g : Assignment) (from : List Source) (s t : Source) : Type 0 where
@@ -184,7 +185,7 @@ module _ (terms : List Term) (numbered : Numbered terms) (g : Assignment) (pair 
   open-says i (Guard.isFalse m) = refl
 
   -- every hypothesis holds under the guess
-  supposed : (l : Literal) → l ∈ hypotheses (indexNumber (pair .first .place)) (indexNumber (pair .later .place)) (path terms g pair) → says g l ≡ true
+  pub supposed : (l : Literal) → l ∈ hypotheses (indexNumber (pair .first .place)) (indexNumber (pair .later .place)) (path terms g pair) → says g l ≡ true
   unfolding openEdges
   supposed l here = go (hypothesis-is (indexNumber (pair .first .place)) (indexNumber (pair .later .place)) (path terms g pair) here)
     where
@@ -199,8 +200,7 @@ module _ (terms : List Term) (numbered : Numbered terms) (g : Assignment) (pair 
 
   -- The lemma is false under the guess
   pub lemma-fails : lemmaHolds g (lemma terms g pair) ≡ false
-  unfolding lemma
-  lemma-fails = none-has (λ l. cond (isConclusion l) (says g l) (not (says g l))) (lemma terms g pair) (λ l here. go l (List·Memᴰ·append-cases hyps here))
+  lemma-fails = none-has (λ l. cond (isConclusion l) (says g l) (not (says g l))) (lemma terms g pair) (λ l here. go l (List·Memᴰ·append-cases hyps (of-whole terms g pair here)))
     where
       hyps : List Literal
       hyps = hypotheses (indexNumber (pair .first .place)) (indexNumber (pair .later .place)) (path terms g pair)
@@ -216,8 +216,7 @@ module _ (terms : List Term) (numbered : Numbered terms) (g : Assignment) (pair 
 
   -- The lemma names given terms alone
   pub lemma-within : (l : Literal) → l ∈ lemma terms g pair → Within (given base terms) (given boolean terms) l
-  unfolding lemma
-  lemma-within l here = either (List·Memᴰ·append-cases (hypotheses (indexNumber (pair .first .place)) (indexNumber (pair .later .place)) (path terms g pair)) here)
+  lemma-within l here = either (List·Memᴰ·append-cases (hypotheses (indexNumber (pair .first .place)) (indexNumber (pair .later .place)) (path terms g pair)) (of-whole terms g pair here))
     where
       first-given : SourceGiven (given array terms) (given base terms) (pair .first)
       first-given = source-given terms numbered (pair .first) (taken-first terms g one)

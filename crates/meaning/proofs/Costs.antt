@@ -11,14 +11,14 @@ use mathlib.Core.List.{List, [], _∷_, _++_, map}
 use mathlib.Core.Option.{Option, none, some}
 use lib.Dec.{eqb, ltb}
 use lib.ListN.{length, getD}
-use Rattle.paper.specs.Lists.{isSome, mapOption, orElse, find, count, sum, range, firstMet, _refuses_, unlessRefused}
+use Rattle.paper.specs.Lists.{isSome, mapOption, orElse, keep, find, count, sum, range, firstMet, _refuses_, unlessRefused}
 use Rattle.paper.specs.Fields.{array}
 use Rattle.paper.specs.Terms.{Term, given, Query, Assignment, assigned}
 use Rattle.paper.specs.Load.{Loaded, load}
 use Rattle.paper.specs.Edges.{indexNumber, Source, sources, Guard, Edge, openEdges}
 use Rattle.paper.specs.Reach.{indexValue, near, stepCost, distances, reachesAt, reaches, pairs}
 use Rattle.paper.specs.Conflict.{Pair, conflicts, firstPair, conflict}
-use Rattle.paper.specs.Lemma.{Literal, pathFrom, hypotheses, path, lemma, lemmaBytes}
+use Rattle.paper.specs.Lemma.{Literal, pathFrom, hypotheses, stays, path, lemma, lemmaBytes}
 use Rattle.paper.specs.Answers.{Verdict, Checked, checkRefused, checkLoaded, check}
 use Rattle.meaning.proofs.Lists.{same-test, count-same, find-same}
 use Rattle.meaning.proofs.Walks.{Ranged}
@@ -29,7 +29,7 @@ use Rattle.meaning.proofs.Built.{AreBytes}
 use Rattle.meaning.proofs.Accepted.{Accepted, accepted}
 use Rattle.meaning.proofs.Sources.{arrays-bound}
 use Rattle.meaning.proofs.Whole.{guessOf, pairOf, pairsOf}
-use Rattle.meaning.proofs.Called.{by-room, check-none, inConflict, check-some}
+use Rattle.meaning.proofs.Called.{by-room, check-none, check-some}
 use Rattle.meaning.proofs.Verdict.{numbered, pair-taken}
 use Rattle.meaning.proofs.Counts.{bytes-at-most}
 use Rattle.meaning.proofs.Bounds.{walk-literals}
@@ -68,7 +68,7 @@ module _ (cost : Guard → ℕ) where
 
     abbrev pub lemmaBy : Pair → List Literal
     lemmaBy pair =
-        hypotheses (indexNumber (pair .first .place)) (indexNumber (pair .later .place)) (pathBy pair)
+        keep (stays terms) (hypotheses (indexNumber (pair .first .place)) (indexNumber (pair .later .place)) (pathBy pair))
         ++ (Literal.conclusion (pair .first .value) (pair .later .value) ∷ [])
 
   abbrev pub checkConflictBy : (room : ℕ) → List Term → Assignment → Option Pair → Checked
@@ -218,7 +218,7 @@ module _ (cost : Guard → ℕ) (positive : (guard : Guard) → 0 < cost guard) 
         omega (
           arith,
           bytes-at-most (lemmaBy cost (query .terms) (guessOf query) pair),
-          walk-literals (pair .first) (pair .later) (pathBy cost (query .terms) (guessOf query) pair),
+          walk-literals (stays (query .terms)) (pair .first) (pair .later) (pathBy cost (query .terms) (guessOf query) pair),
           path-by (query .terms) (numbered ok) (guessOf query) pair (pair-taken ok pair found) cost positive .1,
           arrays-bound ok,
         )

@@ -9,10 +9,10 @@ use mathlib.Core.List.{List}
 use mathlib.Core.Option.{Option, none, some}
 use lib.IntN.{ℤ}
 use lib.ListN.{length}
-use Rattle.paper.specs.Lists.{_∈_, all}
+use Rattle.paper.specs.Lists.{_∈_, all, count}
 use Rattle.paper.specs.Fields.{base, boolean}
 use Rattle.paper.specs.Terms.{given, Query, Assignment}
-use Rattle.paper.specs.Interpretations.{Memories, Interpretation, Consistent}
+use Rattle.paper.specs.Interpretations.{Memories, GivesFixed, Interpretation, Consistent}
 use Rattle.paper.specs.Load.{Loaded, load}
 use Rattle.paper.specs.Conflict.{Pair}
 use Rattle.paper.specs.Lemma.{Literal, lemmaHolds, lemmaBytes}
@@ -21,14 +21,15 @@ use Rattle.paper.specs.Reading.{readLemma, readRun}
 use Rattle.paper.specs.Answers.{Verdict, Checked, checkRefused, check, Looked, lookRefused, look, Written, writeRefused, writeClauses}
 use Rattle.meaning.proofs.Built.{AreBytes}
 use Rattle.meaning.proofs.Accepted.{Accepted, accepted}
+use Rattle.meaning.proofs.Fixed.{wholeLemma}
 use Rattle.meaning.proofs.Whole.{guessOf, pairOf, pairsOf, lemmaOf, modelOf}
 use Rattle.meaning.proofs.Memories.{interprets-same}
 use Rattle.meaning.proofs.Called.{check-none, check-some, inConflict, look-none, write-some, clausesAre, written}
-use Rattle.meaning.proofs.Verdict.{numbered, model-fits, lemma-sound, lemma-false, lemma-names, conflict-refutes, fits-none, none-fits, literals-most}
+use Rattle.meaning.proofs.Verdict.{numbered, model-fits, lemma-whole, lemma-sound, lemma-false, lemma-names, conflict-refutes, fits-none, none-fits, literals-most}
 use Rattle.meaning.proofs.Clauses.{clauses-say-lemma}
 use Rattle.meaning.proofs.Variables.{Names, clauses-name}
 use Rattle.meaning.proofs.Reading.{lemma-read, clauses-read}
-use Rattle.meaning.proofs.Counts.{numbers-at-most, bytes-at-most}
+use Rattle.meaning.proofs.Counts.{isEqual, hasE, clauses-count, fresh-count, numbers-at-most, bytes-at-most}
 use Rattle.meaning.proofs.Bounds.{equal-once, pairs-bound}
 
 -- two verdicts are never the same
@@ -48,13 +49,26 @@ pub record RulesOut (w : ℕ) (query : Query) (literals : List Literal) : Type 0
   pub everywhere : (g : Assignment) (memory : Memories) → Interpretation w (query .terms) g memory → lemmaHolds g literals ≡ true
   pub not-here : lemmaHolds (guessOf query) literals ≡ false
 
--- Clauses that say a lemma: at every assignment of bits to the terms' variables, which are the first, the others can be set so that all
--- clauses hold exactly if the lemma holds
-unfoldable pub Say : (w bases booleans : ℕ) → List (List ℤ) → List Literal → Type 0
-Say w bases booleans clauses literals =
-    (bits : ℕ → Bool)
-    → ((truth : ℕ → Bool) × ((v : ℕ) → v ≤ w * bases + booleans → truth v ≡ bits v) × (all (clauseHolds truth) clauses ≡ true))
-    ↔ (lemmaHolds (assignmentOf w bases booleans bits) literals ≡ true)
+-- Clauses that can hold at an assignment of bits to the terms' variables, which are the first: the others can be set so that all hold
+abbrev pub Settable : (w : ℕ) → Query → (bits : ℕ → Bool) → List (List ℤ) → Type 0
+Settable w query bits clauses =
+    (truth : ℕ → Bool)
+    × ((v : ℕ) → v ≤ w * given base (query .terms) + given boolean (query .terms) → truth v ≡ bits v)
+    × (all (clauseHolds truth) clauses ≡ true)
+
+-- Clauses that say a lemma there: they can hold exactly if the lemma holds
+abbrev pub SayAt : (w : ℕ) → Query → (bits : ℕ → Bool) → List (List ℤ) → List Literal → Type 0
+SayAt w query bits clauses literals =
+    Settable w query bits clauses ↔ (lemmaHolds (assignmentOf w (given base (query .terms)) (given boolean (query .terms)) bits) literals ≡ true)
+
+-- and at every one
+unfoldable pub Say : (w : ℕ) → Query → List (List ℤ) → List Literal → Type 0
+Say w query clauses literals = (bits : ℕ → Bool) → SayAt w query bits clauses literals
+
+-- 02, E1: "Interpretations and the assignments of demand 3 are now those that give each such term its value": of bits, those by which each fixed
+-- number is its value
+abbrev pub RespectsFixed : (w : ℕ) → Query → (bits : ℕ → Bool) → Type 0
+RespectsFixed w query bits = GivesFixed (query .terms) (assignmentOf w (given base (query .terms)) (given boolean (query .terms)) bits)
 
 -- What is read off bytes is a lemma that rules the guess out
 pub record Lemma (w : ℕ) (query : Query) (bytes : List ℕ) : Type 0 where
@@ -62,15 +76,20 @@ pub record Lemma (w : ℕ) (query : Query) (bytes : List ℕ) : Type 0 where
   pub read : readLemma bytes ≡ some literals
   pub rules-out : RulesOut w query literals
 
--- What is read off numbers is so many clauses over so many variables, which say the lemma that is read off bytes
+-- What is read off numbers is so many clauses over so many variables, which say the lemma that is read off bytes; they are counted by the
+-- literals that the lemma has. At bits that respect the fixed numbers they say the lemma with nothing left out just as well.
 pub record Clausal (w : ℕ) (query : Query) (bytes : List ℕ) (numbers : List ℤ) (variables many : ℕ) : Type 0 where
   pub literals : List Literal
   pub clauses : List (List ℤ)
   pub lemma-read : readLemma bytes ≡ some literals
   pub run-read : readRun numbers ≡ some clauses
   pub many-are : many ≡ length clauses
+  pub many-by : many ≡ 2 * w * (count isEqual literals + count hasE literals) + 1
+  pub variables-by : variables ≡ w * given base (query .terms) + given boolean (query .terms) + (w * count isEqual literals + count hasE literals)
   pub names : (clause : List ℤ) → clause ∈ clauses → (n : ℤ) → n ∈ clause → Names variables n
-  pub say : Say w (given base (query .terms)) (given boolean (query .terms)) clauses literals
+  pub say : Say w query clauses literals
+  pub say-whole : (pair : Pair) → pairOf query ≡ some pair → (bits : ℕ → Bool) → RespectsFixed w query bits
+      → SayAt w query bits clauses (wholeLemma (query .terms) (guessOf query) pair)
 
 -- The bounds of 01: pairs; literals and bytes of the lemma; numbers of its clauses at width 32
 pub record Bounded (w : ℕ) (query : Query) : Type 0 where
@@ -115,7 +134,7 @@ module _ (w : ℕ) (bytes : List ℕ) (query : Query) (are-bytes : AreBytes byte
       (model-fits ok (quiet room e))
 
   -- the pair, where the verdict says so
-  clash : (room : ℕ) → check w bytes room .verdict ≡ Verdict.inConflict → (pair : Pair) × (pairOf query ≡ some pair) × (check w bytes room .written ≡ lemmaBytes (lemmaOf query pair))
+  pub clash : (room : ℕ) → check w bytes room .verdict ≡ Verdict.inConflict → (pair : Pair) × (pairOf query ≡ some pair) × (check w bytes room .written ≡ lemmaBytes (lemmaOf query pair))
   unfolding code
   clash room e = go (pairOf query) refl
     where
@@ -160,10 +179,22 @@ module _ (w : ℕ) (bytes : List ℕ) (query : Query) (are-bytes : AreBytes byte
                 ap (λ (one : Written). readRun (one .written)) is
                 ∙ clauses-read w (given base (query .terms)) (given boolean (query .terms)) (lemmaOf query pair);
             many-are = ap (λ (one : Written). one .clauses) is;
+            many-by = ap (λ (one : Written). one .clauses) is ∙ clauses-count w (given base (query .terms)) (given boolean (query .terms)) (lemmaOf query pair);
+            variables-by =
+                ap (λ (one : Written). one .variables) is
+                ∙ ap (λ (n : ℕ). w * given base (query .terms) + given boolean (query .terms) + n) (fresh-count w (lemmaOf query pair));
             names =
                 rw (ap (λ (one : Written). one .variables) is)
                 (clauses-name w (given base (query .terms)) (given boolean (query .terms)) (lemmaOf query pair) (lemma-names ok pair found));
             say = clauses-say-lemma w (given base (query .terms)) (given boolean (query .terms)) (lemmaOf query pair) (lemma-names ok pair found);
+            say-whole =
+                λ other is bits respects.
+                let g = assignmentOf w (given base (query .terms)) (given boolean (query .terms)) bits in
+                let one = clauses-say-lemma w (given base (query .terms)) (given boolean (query .terms)) (lemmaOf query pair) (lemma-names ok pair found) bits in
+                let same : other ≡ pair = cc (found, is) in
+                rw same
+                (let whole = lemma-whole ok pair found g respects in
+                ((λ set. sym whole ∙ one .0 set), λ holds. one .1 (whole ∙ holds)));
           }
       by pair found bytes-are (inr (long, is)) = let z : _≡_ {A = ℕ} 10 0 = ap (λ (one : Written). one .refusal) (sym is) ∙ e in absurd (omega arith)
 

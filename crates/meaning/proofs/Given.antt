@@ -50,6 +50,7 @@ module _ (terms : List Term) (numbered : Numbered terms) where
   of-term (Term.read own from index) names inside edge here = absurd (List·Memᴰ·not-nil here)
   of-term (Term.equality own left right leftWitness rightWitness) names inside edge here =
       rw (List·Memᴰ·eq-of-singleton here) (record { left = names .0; right = names .1; guard = inside })
+  of-term (Term.fixed own value) names inside edge here = absurd (List·Memᴰ·not-nil here)
 
   pub edge-given : (edge : Edge) → edge ∈ edges terms → EdgeGiven (given array terms) (given base terms) (given boolean terms) edge
   unfolding edges
@@ -68,6 +69,7 @@ module _ (terms : List Term) (numbered : Numbered terms) where
   source-of-term (Term.read own from index) names inside source here =
       rw (List·Memᴰ·eq-of-singleton here) (record { origin = names .0; place = names .1; value = inside })
   source-of-term (Term.equality own left right leftWitness rightWitness) names inside source here = absurd (List·Memᴰ·not-nil here)
+  source-of-term (Term.fixed own value) names inside source here = absurd (List·Memᴰ·not-nil here)
 
   pub source-given : (source : Source) → source ∈ sources terms → SourceGiven (given array terms) (given base terms) source
   unfolding sources

@@ -7,19 +7,21 @@ use mathlib.Core.Logic.{_⊎_, _↔_, _≢_}
 use mathlib.Core.Bool.{Bool, true}
 use mathlib.Core.List.{List, map}
 use mathlib.Core.Option.{some}
+use lib.IntN.{ℤ}
 use lib.ListN.{length}
-use Rattle.paper.specs.Lists.{_∈_, count, sum, range}
+use Rattle.paper.specs.Lists.{_∈_, keep, count, sum, range}
 use Rattle.paper.specs.Fields.{array}
-use Rattle.paper.specs.Terms.{given, Query}
-use Rattle.paper.specs.Interpretations.{Interpretation, Consistent}
+use Rattle.paper.specs.Terms.{Term, given, Query, Assignment}
+use Rattle.paper.specs.Interpretations.{Memories, GivesFixed, Interpretation, Consistent}
 use Rattle.paper.specs.Load.{Loaded, load, maxBytes}
 use Rattle.paper.specs.Edges.{Source, sources, Guard}
 use Rattle.paper.specs.Reach.{Reaches, stepCost, reaches}
 use Rattle.paper.specs.Conflict.{Pair}
-use Rattle.paper.specs.Lemma.{Literal}
+use Rattle.paper.specs.Lemma.{Literal, stays, lemma, lemmaHolds}
 use Rattle.paper.specs.Model.{model}
 use Rattle.paper.specs.Cells.{Cell, cells}
-use Rattle.paper.specs.Clauses.{clausesOf, freshCount}
+use Rattle.paper.specs.Clauses.{clausesOf, freshCount, ofBits}
+use Rattle.paper.specs.Reading.{readRun}
 use Rattle.paper.specs.Answers.{Verdict, check, checkRefused, look, lookRefused, writeClauses, writeRefused}
 use Rattle.meaning.proofs.Built.{AreBytes}
 use Rattle.meaning.proofs.Accepted.{accepted}
@@ -27,17 +29,24 @@ use Rattle.meaning.proofs.Sources.{arrays-bound}
 use Rattle.meaning.proofs.Refusals as Refusals
 use Rattle.meaning.proofs.Reach as Reach
 use Rattle.meaning.proofs.Conflicts.{Taken, FewestPath, path-is}
-use Rattle.meaning.proofs.Whole.{guessOf, pairOf, pairsOf}
+use Rattle.meaning.proofs.Whole.{guessOf, pairOf, pairsOf, lemmaOf}
+use Rattle.meaning.proofs.Fixed as Fixed
+use Rattle.meaning.proofs.Fixed.{wholeLemma, BetweenFixed}
+use Rattle.meaning.proofs.Verdict as Verdicts
 use Rattle.meaning.proofs.Verdict.{numbered, pair-taken}
 use Rattle.meaning.proofs.Counts as Counts
 use Rattle.meaning.proofs.Cells as Cells
 use Rattle.meaning.proofs.Cells.{Ascend}
 use Rattle.meaning.proofs.Demands as Demands
-use Rattle.meaning.proofs.Demands.{Lemma, Clausal, Bounded}
+use Rattle.meaning.proofs.Demands.{Lemma, Settable, RespectsFixed, Clausal, Bounded}
+use Rattle.meaning.proofs.AsBits as AsBits
+use Rattle.meaning.proofs.AsBits.{BitsOf}
 use Rattle.meaning.proofs.Answered as Answered
 use Rattle.meaning.proofs.Answered.{IsAnswered}
 use Rattle.meaning.proofs.Costs as Costs
 use Rattle.meaning.proofs.Costs.{pairsBy, conflictBy, checkBy, Alike, AlikeUnlessLong}
+use Rattle.meaning.proofs.Before as Before
+use Rattle.meaning.proofs.Before.{checkWith, writeWith}
 
 -- Demand 1. Every string of bytes has one answer, since the calls are functions of it. What is refused as it is read is refused by a
 -- number of 01's: 1 where it is too long, or else 2 to 9, at a place inside.
@@ -76,10 +85,63 @@ module _ (w : ℕ) (bytes : List ℕ) (query : Query) (are-bytes : AreBytes byte
   conflict-rules-out = Demands.conflict-rules-out w bytes query are-bytes loaded
 
   -- Demand 3. What is read off the numbers written says what is read off that lemma's bytes: at every assignment of bits to the terms, the
-  -- fresh variables can be set so that all clauses hold exactly if the lemma holds.
+  -- fresh variables can be set so that all clauses hold exactly if the lemma holds. With y "equal" and z "differ" and conclusions left in it, the
+  -- clauses are 2w(y+z)+1 and the variables wB+M+wy+z: 64(y+z)+1 and 32B+M+32y+z at width 32. It holds at every assignment, hence at those that
+  -- give each fixed number its value; and there it is the same as with nothing left out (`say-whole`).
   pub clauses-exactly : (room : ℕ) → check w bytes room .verdict ≡ Verdict.inConflict → (run-room : ℕ) → writeClauses w bytes run-room .refusal ≡ 0
       → Clausal w query (check w bytes room .written) (writeClauses w bytes run-room .written) (writeClauses w bytes run-room .variables) (writeClauses w bytes run-room .clauses)
   clauses-exactly = Demands.clauses-exactly w bytes query are-bytes loaded
+
+  -- So the clauses that are read off the numbers rule out the guess. There are bits that are the guess's on all given terms, they give each
+  -- fixed number its value, and at them the fresh variables can't be set so that all clauses hold.
+  pub guess-excluded : (room : ℕ) → check w bytes room .verdict ≡ Verdict.inConflict → (run-room : ℕ) → writeClauses w bytes run-room .refusal ≡ 0
+      → (clauses : List (List ℤ)) → readRun (writeClauses w bytes run-room .written) ≡ some clauses
+      → (bits : ℕ → Bool) × BitsOf w query (guessOf query) bits × RespectsFixed w query bits × (Settable w query bits clauses → ⊥)
+  guess-excluded = AsBits.guess-excluded w bytes query are-bytes loaded
+
+  -- And they rule out no interpretation: there are bits that are its own on all given terms, they too respect the fixed numbers, and at them
+  -- the fresh variables can be so set.
+  pub interpretation-admitted : (room : ℕ) → check w bytes room .verdict ≡ Verdict.inConflict → (run-room : ℕ) → writeClauses w bytes run-room .refusal ≡ 0
+      → (clauses : List (List ℤ)) → readRun (writeClauses w bytes run-room .written) ≡ some clauses
+      → (g : Assignment) (memory : Memories) → Interpretation w (query .terms) g memory
+      → (bits : ℕ → Bool) × BitsOf w query g bits × RespectsFixed w query bits × Settable w query bits clauses
+  interpretation-admitted = AsBits.interpretation-admitted w bytes query are-bytes loaded
+
+  -- 02, E1: "Interpretations and the assignments of demand 3 are now those that give each such term its value." What bits have to respect: those
+  -- of the variables w * own + 1 to w * own + w, the lowest first, are the fixed number's value.
+  pub respects-fixed : (bits : ℕ → Bool)
+      → RespectsFixed w query bits ↔ ((own value : ℕ) → Term.fixed own value ∈ query .terms → ofBits w (λ k. bits (w * own + k + 1)) ≡ value)
+  respects-fixed bits = ((λ respects. respects), λ respects. respects)
+
+  -- Every interpretation gives each fixed number its value, and so does the guess.
+  pub interpretation-fixed : (g : Assignment) (memory : Memories) → Interpretation w (query .terms) g memory → GivesFixed (query .terms) g
+  interpretation-fixed g memory valid own value here = valid .holds (Term.fixed own value) here
+
+  pub guess-fixed : GivesFixed (query .terms) (guessOf query)
+  guess-fixed = Verdicts.guess-fixed (accepted w bytes query are-bytes loaded)
+
+  -- "An 'equal' or 'differ' between two fixed numbers is left out of the lemma", no other literal is, and what stays keeps its order;
+  -- "a conclusion always stays".
+  pub left-out-exactly : (pair : Pair) (l : Literal) → l ∈ wholeLemma (query .terms) (guessOf query) pair
+      → (l ∈ lemmaOf query pair) ↔ (BetweenFixed (query .terms) l → ⊥)
+  left-out-exactly = Fixed.left-out-exactly (query .terms) (guessOf query)
+
+  pub left-out-in-order : (pair : Pair) → lemmaOf query pair ≡ keep (stays (query .terms)) (wholeLemma (query .terms) (guessOf query) pair)
+  left-out-in-order = Fixed.lemma-kept (query .terms) (guessOf query)
+
+  pub conclusion-stays : (pair : Pair) → Literal.conclusion (pair .first .value) (pair .later .value) ∈ lemmaOf query pair
+  conclusion-stays = Fixed.conclusion-stays (query .terms) (guessOf query)
+
+  -- At every assignment that gives each fixed number its value the lemma says what it says with nothing left out.
+  pub fixed-whole : (pair : Pair) → pairOf query ≡ some pair → (g : Assignment) → GivesFixed (query .terms) g
+      → lemmaHolds g (lemmaOf query pair) ≡ lemmaHolds g (wholeLemma (query .terms) (guessOf query) pair)
+  fixed-whole = Verdicts.lemma-whole (accepted w bytes query are-bytes loaded)
+
+  -- A query without fixed numbers is answered as before: check and clauses, with verdict, pairs, lemma and counts, are those of the lemma with
+  -- nothing left out. Lookup and cells name no lemma.
+  pub answered-before : ((own value : ℕ) → Term.fixed own value ∈ query .terms → ⊥) → (room : ℕ)
+      → (check w bytes room ≡ checkWith wholeLemma w bytes room) × (writeClauses w bytes room ≡ writeWith wholeLemma w bytes room)
+  answered-before = Before.answered-before w bytes query loaded
 
   -- Answers come. With 343 bytes the verdict is "consistent" or "conflict", with the paper's pairs. With any other room the answer is the same,
   -- or it is 10, and the answer is longer than the room.
@@ -141,6 +203,17 @@ clause-count = Counts.clauses-count
 
 pub fresh-count : (w : ℕ) (literals : List Literal) → freshCount w literals ≡ w * count Counts.isEqual literals + count Counts.hasE literals
 fresh-count = Counts.fresh-count
+
+-- 02, E1. `checkWith` and `writeWith` are check and clauses with any lemma; with the paper's own they are the paper's.
+pub check-own-lemma : (w : ℕ) (bytes : List ℕ) (room : ℕ) → checkWith lemma w bytes room ≡ check w bytes room
+check-own-lemma = Before.check-own
+
+pub clauses-own-lemma : (w : ℕ) (bytes : List ℕ) (room : ℕ) → writeWith lemma w bytes room ≡ writeClauses w bytes room
+clauses-own-lemma = Before.write-own
+
+-- What is left out of the lemma moves neither verdict nor refusal nor pair count, for every string of bytes and every buffer of 343 bytes.
+pub verdict-before : (w : ℕ) (bytes : List ℕ) → AreBytes bytes → (room : ℕ) → 343 ≤ room → Alike (checkWith wholeLemma w bytes room) (check w bytes room)
+verdict-before = Before.verdict-before
 
 -- 02, E6: "The verdict, the pair and the counts don't move." `checkBy` is the check with any cost of a step; with the paper's own it is the
 -- paper's.

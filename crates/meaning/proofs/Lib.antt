@@ -15,6 +15,7 @@ pub mod Refusals
 pub mod Given
 pub mod Reach
 pub mod Literals
+pub mod Fixed
 pub mod Soundness
 pub mod Model
 pub mod Cells
@@ -33,6 +34,8 @@ pub mod Whole
 pub mod Called
 pub mod Verdict
 pub mod Demands
+pub mod AsBits
 pub mod Answered
 pub mod Costs
+pub mod Before
 pub mod Headline

@@ -55,6 +55,11 @@ find-same [] same = refl
 find-same (x ∷ xs) same =
     ap₂ (λ b found. cond b (some x) found) (same x (List·Memᴰ·head refl)) (find-same xs (λ y here. same y (List·Memᴰ·tail here)))
 
+pub keep-same : {A : Type 0} {test other : A → Bool} (xs : List A) → ((x : A) → x ∈ xs → test x ≡ other x) → keep test xs ≡ keep other xs
+keep-same [] same = refl
+keep-same {A} (x ∷ xs) same =
+    ap₂ (λ (b : Bool) (kept : List A). cond b (x ∷ kept) kept) (same x (List·Memᴰ·head refl)) (keep-same xs (λ y here. same y (List·Memᴰ·tail here)))
+
 module _ {A : Type 0} (test : A → Bool) where
   -- what is kept is of the list and passes the test; and back
   pub keep-in : (xs : List A) {x : A} → x ∈ keep test xs → (x ∈ xs) × (test x ≡ true)
@@ -73,6 +78,47 @@ module _ {A : Type 0} (test : A → Bool) where
       go : (b : Bool) → x ∈ keep test xs → x ∈ cond b (y ∷ keep test xs) (keep test xs)
       go true below = List·Memᴰ·tail below
       go false below = below
+
+  -- what is kept is at most all, of those too that pass another test; where all pass, all are kept
+  pub keep-shorter : (xs : List A) → length (keep test xs) ≤ length xs
+  keep-shorter [] = omega arith
+  keep-shorter (x ∷ xs) = go (test x) (keep-shorter xs)
+    where
+      go : (b : Bool) → length (keep test xs) ≤ length xs → length (cond b (x ∷ keep test xs) (keep test xs)) ≤ suc (length xs)
+      go true below = omega arith
+      go false below = omega arith
+
+  pub keep-fewer : (wanted : A → Bool) (xs : List A) → count wanted (keep test xs) ≤ count wanted xs
+  keep-fewer wanted [] = omega arith
+  keep-fewer wanted (x ∷ xs) = go (test x) (keep-fewer wanted xs)
+    where
+      go : (b : Bool) → count wanted (keep test xs) ≤ count wanted xs
+          → count wanted (cond b (x ∷ keep test xs) (keep test xs)) ≤ cond (wanted x) 1 0 + count wanted xs
+      go true below = omega arith
+      go false below = omega arith
+
+  pub keep-all : ((x : A) → test x ≡ true) → (xs : List A) → keep test xs ≡ xs
+  keep-all passes [] = refl
+  keep-all passes (x ∷ xs) = rw (passes x) (ap (λ (l : List A). x ∷ l) (keep-all passes xs))
+
+  pub keep-append : (xs ys : List A) → keep test (xs ++ ys) ≡ keep test xs ++ keep test ys
+  keep-append [] ys = refl
+  keep-append (x ∷ xs) ys = go (test x) (keep-append xs ys)
+    where
+      go : (b : Bool) → keep test (xs ++ ys) ≡ keep test xs ++ keep test ys
+          → cond b (x ∷ keep test (xs ++ ys)) (keep test (xs ++ ys)) ≡ cond b (x ∷ keep test xs) (keep test xs) ++ keep test ys
+      go true same = ap (λ (l : List A). x ∷ l) same
+      go false same = same
+
+  -- where what is left out fails another test, some element that is kept passes it exactly if some element does
+  pub any-kept : (wanted : A → Bool) (xs : List A) → ((x : A) → x ∈ xs → test x ≡ false → wanted x ≡ false)
+      → any wanted (keep test xs) ≡ any wanted xs
+  any-kept wanted [] fails = refl
+  any-kept wanted (x ∷ xs) fails = go (test x) refl (any-kept wanted xs (λ y here. fails y (List·Memᴰ·tail here)))
+    where
+      go : (b : Bool) → test x ≡ b → any wanted (keep test xs) ≡ any wanted xs → any wanted (cond b (x ∷ keep test xs) (keep test xs)) ≡ (wanted x || any wanted xs)
+      go true e below = ap (λ (b : Bool). wanted x || b) below
+      go false e below = rw (fails x (List·Memᴰ·head refl) e) below
 
   -- some element passes, or all do
   pub any-has : (xs : List A) {x : A} → x ∈ xs → test x ≡ true → any test xs ≡ true

@@ -36,6 +36,7 @@ module _ (w : ℕ) (terms : List Term) (numbered : Numbered terms) (g : Assignme
   means-same (Term.read own from index) names inside means = means ∙ same from (g .value index) (names .0) (small index (names .1))
   means-same (Term.equality own left right leftWitness rightWitness) names inside means =
       ((λ holds. agree-same left right (names .0) (names .1) (means .0 holds)), (λ agree. means .1 (agree-back left right (names .0) (names .1) agree)))
+  means-same (Term.fixed own value) names inside means = means
 
   pub interprets-same : Interpretation w terms g one → Interpretation w terms g other
   interprets-same valid =

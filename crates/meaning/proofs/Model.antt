@@ -160,6 +160,7 @@ module _ (terms : List Term) (numbered : Numbered terms) (g : Assignment) where
               let i = seen .0 in
               let inside = small i (numbered .names (Term.read leftWitness left i) (seen .1) .1) in
               absurd (seen .3 e (sym (read-source leftWitness left i (seen .1)) ∙ agree (g .value i) inside ∙ read-source rightWitness right i (seen .2)))
+      model-means (Term.fixed own value) here = witnessed (Term.fixed own value) here
 
       model-small : (a x : ℕ) → model terms g a x < 2 ^ w
       unfolding model

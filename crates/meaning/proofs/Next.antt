@@ -36,6 +36,7 @@ next-counts Kind.write own (onePart a (onePart b (onePart c noPart))) = (refl, r
 next-counts Kind.conditional own (onePart a (onePart b (onePart c noPart))) = (refl, refl, refl)
 next-counts Kind.read own (onePart a (onePart b (onePart c noPart))) = (refl, refl, refl)
 next-counts Kind.equality own (onePart a (onePart b (onePart c (onePart d (onePart e noPart))))) = (refl, refl, refl)
+next-counts Kind.fixed own (onePart a noPart) = (refl, refl, refl)
 
 -- k bytes are 8 * k bits
 byte-power : (k : ℕ) → 256 ^ k ≡ 2 ^ (8 * k)
@@ -76,6 +77,7 @@ read-is b a i (Term.read own from index) e = go (eqb own b && eqb from a) refl e
     go true both found = cc (eqb-true own b (and-left (eqb own b) (eqb from a) both), eqb-true from a (and-right (eqb own b) (eqb from a) both))
     go false both found = absurd (Option·none-ne-some i found)
 read-is b a i (Term.equality own left right leftWitness rightWitness) e = absurd (Option·none-ne-some i e)
+read-is b a i (Term.fixed own value) e = absurd (Option·none-ne-some i e)
 
 -- a witness whose index is found is a read of the terms
 witness-in : (terms : List Term) (b a i : ℕ) → witnessIndex terms b a ≡ some i → Term.read b a i ∈ terms
@@ -125,6 +127,11 @@ module _ (query : Query) (values : length (query .guess .values) ≡ given base 
           (witness-tested t (equalWitnesses (query .guess) left right leftWitness rightWitness) (faultless .bits) unset (faultless .differing))
           (sym (kept leftWitness onLeft) ∙ same ∙ kept rightWitness onRight)
 
+  -- the guess has a fixed number's value
+  next-fixed : (x : ℕ) → assigned (extend query Kind.fixed (x ∷ []) .guess) .value (given base (query .terms)) ≡ x
+  unfolding extend
+  next-fixed x = getD-at (query .guess .values) x [] 0 (given base (query .terms)) values
+
   -- the term of a field whose tests are not met is placed after the terms before it
   pub next-placed : {w : ℕ} (kind : Kind) {numbers : List ℕ} → Shaped w (parts kind) numbers → Faultless query kind numbers → Placed (query .terms) (assigned (extend query kind numbers .guess)) (nextTerm (query .terms) kind numbers)
   next-placed kind {numbers} shaped faultless = go kind shaped faultless (all-false (eachPart (asUngiven (λ s. given s (query .terms))) (parts kind) numbers) (faultless .named))
@@ -139,3 +146,4 @@ module _ (query : Query) (values : length (query .guess .values) ≡ given base 
       go Kind.read (onePart a (onePart b (onePart c noPart))) faultless named = (omega (arith, leb-false), refl, tt)
       go Kind.equality (onePart {x = left} a (onePart {x = right} b (onePart {x = t} c (onePart {x = leftWitness} d (onePart {x = rightWitness} e noPart))))) faultless named =
           (omega (arith, leb-false), refl, next-witnessed left right t leftWitness rightWitness faultless (omega (arith, leb-false)) (omega (arith, leb-false)))
+      go Kind.fixed (onePart {x = x} a noPart) faultless named = (tt, refl, next-fixed x)

@@ -22,6 +22,7 @@ Below c (Term.write own beneath index value) = (beneath < c array) × (index < c
 Below c (Term.conditional own chooser ifTrue ifFalse) = (chooser < c boolean) × (ifTrue < c array) × (ifFalse < c array)
 Below c (Term.read own from index) = (from < c array) × (index < c base)
 Below c (Term.equality own left right leftWitness rightWitness) = (left < c array) × (right < c array) × (leftWitness < c base) × (rightWitness < c base)
+Below c (Term.fixed own value) = Unit {0}
 
 -- the term's own number
 abbrev pub ownNumber : Term → ℕ
@@ -32,8 +33,10 @@ ownNumber (Term.write own beneath index value) = own
 ownNumber (Term.conditional own chooser ifTrue ifFalse) = own
 ownNumber (Term.read own from index) = own
 ownNumber (Term.equality own left right leftWitness rightWitness) = own
+ownNumber (Term.fixed own value) = own
 
--- an equality's witnesses are two reads of its sides at one index, whose values differ where its truth is false
+-- what a term asks of the guess: a fixed number has its value; an equality's witnesses are two reads of its sides at one index, whose
+-- values differ where its truth is false
 abbrev pub Witnessed : List Term → Assignment → Term → Type 0
 Witnessed before g (Term.freeBase own) = Unit {0}
 Witnessed before g (Term.freeBoolean own) = Unit {0}
@@ -43,6 +46,7 @@ Witnessed before g (Term.conditional own chooser ifTrue ifFalse) = Unit {0}
 Witnessed before g (Term.read own from index) = Unit {0}
 Witnessed before g (Term.equality own left right leftWitness rightWitness) =
     (i : ℕ) × (Term.read leftWitness left i ∈ before) × (Term.read rightWitness right i ∈ before) × (g .truth own ≡ false → g .value leftWitness ≢ g .value rightWitness)
+Witnessed before g (Term.fixed own value) = g .value own ≡ value
 
 -- what a term has where it stands after others
 abbrev pub Placed : List Term → Assignment → Term → Type 0
@@ -60,23 +64,26 @@ below-grows c d grows term below = go term below (grows base) (grows boolean) (g
     go (Term.conditional own chooser ifTrue ifFalse) below bases booleans arrays = omega arith
     go (Term.read own from index) below bases booleans arrays = omega arith
     go (Term.equality own left right leftWitness rightWitness) below bases booleans arrays = omega arith
+    go (Term.fixed own value) below bases booleans arrays = tt
 
--- witnesses stay among more terms, and under an assignment that agrees on the base terms given before and on the term's own truth
+-- witnesses stay among more terms, and under an assignment that agrees on the base terms given before and on the term's own truth or value
 pub witnessed-kept : (term : Term) {before terms : List Term} (g h : Assignment) → ((t : Term) → t ∈ before → t ∈ terms)
-    → (series term ≡ boolean → h .truth (ownNumber term) ≡ g .truth (ownNumber term)) → ((b : ℕ) → b < given base before → h .value b ≡ g .value b)
+    → (series term ≡ boolean → h .truth (ownNumber term) ≡ g .truth (ownNumber term))
+    → (series term ≡ base → h .value (ownNumber term) ≡ g .value (ownNumber term)) → ((b : ℕ) → b < given base before → h .value b ≡ g .value b)
     → Below (λ s. given s before) term → Witnessed before g term → Witnessed terms h term
-witnessed-kept (Term.freeBase own) g h among truths values below witnessed = tt
-witnessed-kept (Term.freeBoolean own) g h among truths values below witnessed = tt
-witnessed-kept (Term.variable own) g h among truths values below witnessed = tt
-witnessed-kept (Term.write own beneath index value) g h among truths values below witnessed = tt
-witnessed-kept (Term.conditional own chooser ifTrue ifFalse) g h among truths values below witnessed = tt
-witnessed-kept (Term.read own from index) g h among truths values below witnessed = tt
-witnessed-kept (Term.equality own left right leftWitness rightWitness) g h among truths values below (i, onLeft, onRight, differ) = (
+witnessed-kept (Term.freeBase own) g h among truths own-value values below witnessed = tt
+witnessed-kept (Term.freeBoolean own) g h among truths own-value values below witnessed = tt
+witnessed-kept (Term.variable own) g h among truths own-value values below witnessed = tt
+witnessed-kept (Term.write own beneath index value) g h among truths own-value values below witnessed = tt
+witnessed-kept (Term.conditional own chooser ifTrue ifFalse) g h among truths own-value values below witnessed = tt
+witnessed-kept (Term.read own from index) g h among truths own-value values below witnessed = tt
+witnessed-kept (Term.equality own left right leftWitness rightWitness) g h among truths own-value values below (i, onLeft, onRight, differ) = (
   i,
   among (Term.read leftWitness left i) onLeft,
   among (Term.read rightWitness right i) onRight,
   λ e same. differ (sym (truths refl) ∙ e) (sym (values leftWitness (below .2)) ∙ same ∙ values rightWitness (below .3)),
 )
+witnessed-kept (Term.fixed own value) g h among truths own-value values below witnessed = own-value refl ∙ witnessed
 
 -- the test on series is their equality
 pub same-series : (s t : Series) → sameSeries s t ≡ true → s ≡ t

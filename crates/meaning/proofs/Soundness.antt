@@ -48,6 +48,7 @@ module _ (w : ℕ) (terms : List Term) (g : Assignment) (memory : Memories) (val
   of-term i small (Term.equality own left right leftWitness rightWitness) means edge here holds =
       let same = List·Memᴰ·eq-of-singleton here in
       rw same (means .0 (rw same at holds) (g .value i) small)
+  of-term i small (Term.fixed own value) means edge here holds = absurd (List·Memᴰ·not-nil here)
 
   pub edge-agrees : (i : ℕ) → g .value i < 2 ^ w → (edge : Edge) → edge ∈ edges terms → says g (literalOf i (edge .guard)) ≡ true
       → memory (edge .left) (g .value i) ≡ memory (edge .right) (g .value i)
@@ -77,6 +78,7 @@ module _ (w : ℕ) (terms : List Term) (g : Assignment) (memory : Memories) (val
   source-of-term (Term.conditional own chooser ifTrue ifFalse) means source here = absurd (List·Memᴰ·not-nil here)
   source-of-term (Term.read own from index) means source here = rw (List·Memᴰ·eq-of-singleton here) (sym means)
   source-of-term (Term.equality own left right leftWitness rightWitness) means source here = absurd (List·Memᴰ·not-nil here)
+  source-of-term (Term.fixed own value) means source here = absurd (List·Memᴰ·not-nil here)
 
   pub source-holds : (source : Source) → source ∈ sources terms → memory (source .origin) (g .value (indexNumber (source .place))) ≡ g .value (source .value)
   unfolding sources

@@ -31,6 +31,7 @@ sourced c (Term.write own beneath index value) below = omega arith
 sourced c (Term.conditional own chooser ifTrue ifFalse) below = omega arith
 sourced c (Term.read own from index) below = omega arith
 sourced c (Term.equality own left right leftWitness rightWitness) below = omega arith
+sourced c (Term.fixed own value) below = omega arith
 
 module _ {w : ℕ} {query : Query} (accepted : Accepted w query) where
   -- each series of sources lacks its first term

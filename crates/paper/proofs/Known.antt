@@ -1,17 +1,17 @@
 -- 01, Known queries: the starred ones, K1 to K11, K12 and ours, in one table with one statement, proved by computation. What a row says is
--- spelled out, number by number and byte by byte: it calls nothing that it tests.
+-- spelled out, number by number and byte by byte: it calls nothing that it tests. Those with fixed numbers are in Fixed.antt.
 -- Assumes nothing.
 use Prim.Native.Nat.{ℕ, _+_, _^_}
 use mathlib.Core.Path.{_≡_, refl}
-use mathlib.Core.Bool.{Bool, true, false, not}
+use mathlib.Core.Bool.{true, false, not}
 use mathlib.Core.List.{List, [], _∷_, _++_, map}
-use mathlib.Core.Option.{Option, none, some}
+use mathlib.Core.Option.{none, some}
 use lib.Dec.{eqb, ltb}
 use lib.IntN.{ℤ, pos, negsuc}
-use lib.ListN.{length, replicate}
+use lib.ListN.{replicate}
 use Rattle.paper.specs.Lists.{concatMap, range}
 use Rattle.paper.specs.Fields.{itemAt}
-use Rattle.paper.specs.Terms.{given, Assignment, assigned}
+use Rattle.paper.specs.Terms.{given, isFixed, Assignment, assigned}
 use Rattle.paper.specs.Load.{faults, extend, load}
 use Rattle.paper.specs.Edges.{sources, Guard, Edge, edges, openEdges}
 use Rattle.paper.specs.Reach.{costs, writes, stepCost, distances, reachesAt, reaches, pairs}
@@ -22,87 +22,14 @@ use Rattle.paper.specs.Cells.{Cell}
 use Rattle.paper.specs.Cells as Listing
 use Rattle.paper.specs.Clauses.{namedClauses, freshCount, clausesOf, clauseHolds, assignmentOf}
 use Rattle.paper.specs.Reading.{readLemma, readRun}
-use Rattle.paper.specs.Answers.{Verdict, Checked, Looked, Listed, Written, check, look, list, writeClauses, writtenOver}
+use Rattle.paper.specs.Answers.{check, look, list, writeClauses, writtenOver}
+use Rattle.paper.proofs.Rows.{Answer, literalsAre, bytesAre, clausesAre, valueIs, truthIs, Row, _is_, count, closed}
+use Rattle.paper.proofs.Rows.{consistentIn, conflictIn, refusedIn, consistent, conflictOf, refused, cell, noCell, cellsIn, noCells, clausesCount, clausesIn, noClauses}
 use Rattle.paper.proofs.Queries.{freeBase, freeBoolean, variable, write, conditional, read, equality, equals, differs, holds, fails, concludes, times}
 use Rattle.paper.proofs.Queries.{k1, k2, k3, k4With, k6With, k9, k10, k11tag, k11short, k11length, k12}
 use Rattle.paper.proofs.Queries.{o1, o2, o3, o4, o5, o6, o7, o8, o9, o10, o11, o12, o13, oneRead, twoReads, basesTwo, arraysTwo}
 use Rattle.paper.proofs.Queries.{o14, o15, o16, o17, o18, o19, o20, o21}
-
--- what a call answers, or a definition gives; of the clause writer, where that is enough, how many numbers and not which
-pub data Answer : Type 0 where
-  checked : Checked → Answer
-  looked : Looked → Answer
-  listed : Listed → Answer
-  written : Written → Answer
-  counted : (refusal offset variables clauses numbers : ℕ) → Answer
-  bytesAre : List ℕ → Answer
-  literalsAre : Option (List Literal) → Answer
-  clausesAre : Option (List (List ℤ)) → Answer
-  valueIs : ℕ → Answer
-  truthIs : Bool → Answer
-
-unfoldable pub count : Written → Answer
-count answer = counted (answer .refusal) (answer .offset) (answer .variables) (answer .clauses) (length (answer .written))
-
--- A row of the table: what is called, and what 01 says
-infix 10 _is_
-pub data Row : Type 0 where
-  _is_ : (answers says : Answer) → Row
-
-module _ (bytes : List ℕ) where
-  -- the check, with room for so many bytes
-  unfoldable pub consistentIn : (room pairs : ℕ) → Row
-  consistentIn room pairs =
-      checked (check 32 bytes room) is checked (record { verdict = Verdict.consistent; refusal = 0; offset = 0; pairs = pairs; written = [] })
-
-  unfoldable pub conflictIn : (room pairs : ℕ) → (lemma : List ℕ) → Row
-  conflictIn room pairs lemma =
-      checked (check 32 bytes room) is checked (record { verdict = Verdict.inConflict; refusal = 0; offset = 0; pairs = pairs; written = lemma })
-
-  unfoldable pub refusedIn : (room refusal offset : ℕ) → Row
-  refusedIn room refusal offset =
-      checked (check 32 bytes room) is checked (record { verdict = Verdict.refused; refusal = refusal; offset = offset; pairs = 0; written = [] })
-
-  -- with the room that always suffices
-  abbrev pub consistent : (pairs : ℕ) → Row
-  consistent pairs = consistentIn 343 pairs
-
-  abbrev pub conflictOf : (pairs : ℕ) → (lemma : List ℕ) → Row
-  conflictOf pairs lemma = conflictIn 343 pairs lemma
-
-  abbrev pub refused : (refusal offset : ℕ) → Row
-  refused refusal offset = refusedIn 343 refusal offset
-
-  unfoldable pub cell : (array index value : ℕ) → Row
-  cell array index value = looked (look 32 bytes array index) is looked (record { refusal = 0; offset = 0; value = value })
-
-  unfoldable pub noCell : (array index refusal offset : ℕ) → Row
-  noCell array index refusal offset =
-      looked (look 32 bytes array index) is looked (record { refusal = refusal; offset = offset; value = 0 })
-
-  -- the cells of one array, with room for so many
-  unfoldable pub cellsIn : (room array : ℕ) → List Cell → Row
-  cellsIn room array cells = listed (list 32 bytes array room) is listed (record { refusal = 0; offset = 0; listed = cells })
-
-  unfoldable pub noCells : (room array refusal offset : ℕ) → Row
-  noCells room array refusal offset = listed (list 32 bytes array room) is listed (record { refusal = refusal; offset = offset; listed = [] })
-
-  -- the clause writer, with room for so many numbers
-  unfoldable pub clausesCount : (clauses variables numbers : ℕ) → Row
-  unfolding count
-  clausesCount clauses variables numbers = count (writeClauses 32 bytes 12625) is counted 0 0 variables clauses numbers
-
-  unfoldable pub clausesIn : (room clauses variables : ℕ) → List ℤ → Row
-  clausesIn room clauses variables numbers =
-      written (writeClauses 32 bytes room) is written (record { refusal = 0; offset = 0; variables = variables; clauses = clauses; written = numbers })
-
-  unfoldable pub noClauses : (room refusal offset : ℕ) → Row
-  noClauses room refusal offset =
-      written (writeClauses 32 bytes room) is written (record { refusal = refusal; offset = offset; variables = 0; clauses = 0; written = [] })
-
--- "each clause closed by 0": numbers below zero are those of `negsuc`, whose 0 is -1
-abbrev pub closed : List ℤ → List ℤ
-closed clause = clause ++ (pos 0 ∷ [])
+use Rattle.paper.proofs.Fixed.{fixedLemmas, fixedWays, fixedRefusals, fixedValues}
 
 -- O10 at two bits: 5 base terms are variables 1 to 10, 2 Booleans 11 and 12, and the fresh ones 13 to 16
 abbrev pub o10Literals : List Literal
@@ -233,7 +160,7 @@ ways =
 unfoldable pub heads : List Row
 heads =
     refused (0x00 ∷ 0 ∷ 0 ∷ []) 3 0
-    ∷ refused (0x08 ∷ 0 ∷ 0 ∷ []) 3 0
+    ∷ refused (0x09 ∷ 0 ∷ 0 ∷ []) 3 0
     ∷ refused (0xFF ∷ 0 ∷ 0 ∷ []) 3 0
     ∷ refused (0x09 ∷ 0 ∷ 1 ∷ []) 3 0
     ∷ refused (0x09 ∷ []) 2 0
@@ -397,7 +324,9 @@ readings =
     ∷ []
 
 unfoldable pub table : List Row
-table = ofThePaper ++ lemmas ++ ways ++ heads ++ limits ++ fields ++ cells ++ listings ++ rooms ++ meanings ++ clauses ++ readings
+table =
+    ofThePaper ++ lemmas ++ ways ++ heads ++ limits ++ fields ++ cells ++ listings ++ rooms ++ meanings ++ clauses ++ readings
+    ++ fixedLemmas ++ fixedWays ++ fixedRefusals ++ fixedValues
 
 abbrev pub answers : Row → Answer
 answers (one is other) = one
@@ -406,5 +335,5 @@ abbrev pub says : Row → Answer
 says (one is other) = other
 
 pub known : map answers table ≡ map says table
-unfolding itemAt given faults extend load sources edges openEdges distances reachesAt reaches pairs conflicts conflict hypotheses path lemma model namedClauses freshCount clausesOf Listing.cells check look list writeClauses table ofThePaper lemmas ways heads limits fields cells listings rooms meanings clauses readings consistentIn conflictIn refusedIn clausesCount clausesIn noClauses cell noCell cellsIn noCells count
+unfolding itemAt given faults extend load sources edges openEdges distances reachesAt reaches pairs conflicts conflict hypotheses isFixed path lemma model namedClauses freshCount clausesOf Listing.cells check look list writeClauses table ofThePaper lemmas ways heads limits fields cells listings rooms meanings clauses readings fixedLemmas fixedWays fixedRefusals fixedValues consistentIn conflictIn refusedIn clausesCount clausesIn noClauses cell noCell cellsIn noCells count
 known = refl

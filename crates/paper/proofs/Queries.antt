@@ -1,5 +1,5 @@
 -- 01, Known queries: K1 to K12 as bytes, and ours, O1 to O21; and the fields of lemmas, as 01 spells them. Nothing here calls what the table
--- tests: bytes are put in order once more.
+-- tests: bytes are put in order once more. Fixed.antt has those with fixed numbers.
 -- Assumes nothing.
 use Prim.Native.Nat.{ℕ, _/_, _%_}
 use mathlib.Core.List.{List, [], _∷_, _++_}
@@ -35,6 +35,10 @@ read from index value = (0x06 ∷ 0 ∷ 8 ∷ two from) ++ two index ++ four val
 abbrev pub equality : (left right truth leftWitness rightWitness : ℕ) → List ℕ
 equality left right truth leftWitness rightWitness =
     (0x07 ∷ 0 ∷ 9 ∷ two left) ++ two right ++ (truth ∷ two leftWitness) ++ two rightWitness
+
+-- 02, E1: "New tag 08, length 4"
+abbrev pub fixed : (value : ℕ) → List ℕ
+fixed value = 0x08 ∷ 0 ∷ 4 ∷ four value
 
 -- The literals, as 01 has their fields. No term number of a lemma takes more than its low byte
 abbrev pub equals : (i j : ℕ) → List ℕ

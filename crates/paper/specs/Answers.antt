@@ -1,20 +1,19 @@
 -- The answers of the calls: number and offset of the refusal, every other number, and what is written. 01, Refusals by number:
 -- "A refusal gives number and offset, every other number 0, and the answer buffer is untouched."
 -- Assumes nothing.
-use Prim.Native.Nat.{ℕ, zero, suc, _+_, _*_, _^_}
-use mathlib.Core.Bool.{Bool, true, false, cond, not}
+use Prim.Native.Nat.{ℕ, _+_, _*_, _^_}
 use mathlib.Core.List.{List, [], _∷_, _++_}
 use mathlib.Core.Option.{Option, none, some}
-use lib.Dec.{eqb, leb, ltb}
+use lib.Dec.{leb, ltb}
 use lib.IntN.{ℤ}
 use lib.ListN.{length, drop}
-use Rattle.paper.specs.Lists.{isSome, Test, _refuses_, firstMet, unlessRefused}
+use Rattle.paper.specs.Lists.{isSome, _refuses_, firstMet, unlessRefused}
 use Rattle.paper.specs.Fields.{base, boolean, array}
-use Rattle.paper.specs.Terms.{Term, given, Query, Assignment, assigned}
+use Rattle.paper.specs.Terms.{Term, given, Assignment, assigned}
 use Rattle.paper.specs.Load.{Loaded, load}
 use Rattle.paper.specs.Reach.{pairs}
 use Rattle.paper.specs.Conflict.{Pair, conflict}
-use Rattle.paper.specs.Lemma.{Literal, lemma, lemmaBytes}
+use Rattle.paper.specs.Lemma.{lemma, lemmaBytes}
 use Rattle.paper.specs.Model.{model}
 use Rattle.paper.specs.Cells.{Cell, cells}
 use Rattle.paper.specs.Clauses.{clausesOf, freshCount, run}

@@ -1,9 +1,8 @@
 -- 01, The lemma: when two sources conflict, and the pair that is taken.
 -- Assumes nothing.
-use Prim.Native.Nat.{ℕ}
-use mathlib.Core.Bool.{Bool, true, false, cond}
+use mathlib.Core.Bool.{Bool, false, cond}
 use mathlib.Core.List.{List, [], _∷_}
-use mathlib.Core.Option.{Option, none, some}
+use mathlib.Core.Option.{Option, none}
 use lib.Dec.{eqb}
 use Rattle.paper.specs.Lists.{mapOption, orElse, find}
 use Rattle.paper.specs.Terms.{Term, Assignment}

@@ -1,7 +1,7 @@
 -- 01, Sources, edges, reach: the sources and edges that the terms give, and which edges a guess opens.
 -- Assumes nothing.
 use Prim.Native.Nat.{ℕ}
-use mathlib.Core.Bool.{Bool, true, false, not}
+use mathlib.Core.Bool.{Bool, not}
 use mathlib.Core.List.{List, [], _∷_}
 use lib.Dec.{eqb}
 use Rattle.paper.specs.Lists.{concatMap, keep}
@@ -32,6 +32,7 @@ sourceOf (Term.write own beneath index value) = record { origin = own; place = a
 sourceOf (Term.conditional own chooser ifTrue ifFalse) = []
 sourceOf (Term.read own from index) = record { origin = from; place = at index; value = own } ∷ []
 sourceOf (Term.equality own left right leftWitness rightWitness) = []
+sourceOf (Term.fixed own value) = []
 
 -- "Fields 04 and 06, in order"
 unfoldable pub sources : List Term → List Source
@@ -60,6 +61,7 @@ edgeOf (Term.conditional own chooser ifTrue ifFalse) =
     ∷ []
 edgeOf (Term.read own from index) = []
 edgeOf (Term.equality own left right leftWitness rightWitness) = record { left = left; right = right; guard = Guard.isTrue own } ∷ []
+edgeOf (Term.fixed own value) = []
 
 -- "Fields 04, 05 and 07, in order, are the edges"
 unfoldable pub edges : List Term → List Edge

@@ -1,8 +1,8 @@
 -- 01, The query: the table of fields, and the run of fields that a string of bytes is.
 -- Assumes nothing.
 use Prim.Native.Nat.{ℕ, zero, suc, _+_, _/_}
-use mathlib.Core.Bool.{Bool, true, false, cond, not}
-use mathlib.Core.List.{List, [], _∷_, _++_, map}
+use mathlib.Core.Bool.{not}
+use mathlib.Core.List.{List, [], _∷_, map}
 use mathlib.Core.Option.{Option, none, some}
 use lib.Dec.{eqb, ltb}
 use lib.ListN.{length, getD, take, drop}
@@ -17,9 +17,10 @@ pub data Part : Type 0 where
   value truth : Part
   names : Series → Part
 
--- "Each field is one of these seven kinds with its own parts"
+-- "Each field is one of these seven kinds with its own parts"; 02, E1: "New tag 08, length 4: a base term whose value is the same in every
+-- interpretation"
 pub data Kind : Type 0 where
-  freeBase freeBoolean variable write conditional read equality : Kind
+  freeBase freeBoolean variable write conditional read equality fixed : Kind
 
 -- the table's columns: the kind by its tag, from 00 on; the parts of its value; "gives the next"
 abbrev pub kinds : List (Option Kind)
@@ -32,6 +33,7 @@ kinds =
     ∷ some Kind.conditional
     ∷ some Kind.read
     ∷ some Kind.equality
+    ∷ some Kind.fixed
     ∷ []
 
 abbrev pub kindOf : (tag : ℕ) → Option Kind
@@ -45,6 +47,7 @@ parts Kind.write = Part.names array ∷ Part.names base ∷ Part.names base ∷ 
 parts Kind.conditional = Part.names boolean ∷ Part.names array ∷ Part.names array ∷ []
 parts Kind.read = Part.names array ∷ Part.names base ∷ Part.value ∷ []
 parts Kind.equality = Part.names array ∷ Part.names array ∷ Part.truth ∷ Part.names base ∷ Part.names base ∷ []
+parts Kind.fixed = Part.value ∷ []
 
 abbrev pub gives : Kind → Series
 gives Kind.freeBase = base
@@ -54,6 +57,7 @@ gives Kind.write = array
 gives Kind.conditional = array
 gives Kind.read = base
 gives Kind.equality = boolean
+gives Kind.fixed = base
 
 -- "Term numbers take two bytes"; a value has the width w, in bits; a truth is one byte
 abbrev pub size : (w : ℕ) → Part → ℕ

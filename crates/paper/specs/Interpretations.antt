@@ -1,7 +1,7 @@
 -- 01, Memories and interpretations.
 -- Assumes nothing.
 use Prim.Native.Nat.{ℕ, _<_, _^_}
-use mathlib.Core.Bool.{Bool, true, false, cond}
+use mathlib.Core.Bool.{true, cond}
 use mathlib.Core.Path.{_≡_}
 use mathlib.Core.Logic.{_↔_, _≢_}
 use mathlib.Core.List.{List}
@@ -28,6 +28,11 @@ Means w g memory (Term.write own beneath index value) =
 Means w g memory (Term.conditional own chooser ifTrue ifFalse) = Agree w memory own (cond (g .truth chooser) ifTrue ifFalse)
 Means w g memory (Term.read own from index) = g .value own ≡ memory from (g .value index)
 Means w g memory (Term.equality own left right leftWitness rightWitness) = (g .truth own ≡ true) ↔ Agree w memory left right
+Means w g memory (Term.fixed own value) = g .value own ≡ value
+
+-- 02, E1: "Interpretations and the assignments of demand 3 are now those that give each such term its value"
+abbrev pub GivesFixed : List Term → Assignment → Type 0
+GivesFixed terms g = (own value : ℕ) → Term.fixed own value ∈ terms → g .value own ≡ value
 
 pub record Interpretation (w : ℕ) (terms : List Term) (g : Assignment) (memory : Memories) : Type 0 where
   pub values : (b : ℕ) → b < given base terms → g .value b < 2 ^ w

@@ -1,15 +1,15 @@
 -- 01, The lemma: the path, the literals, what they say, and their bytes.
 -- Assumes nothing.
 use Prim.Native.Nat.{ℕ, zero, suc, _+_, _*_, _/_, _%_}
-use mathlib.Core.Bool.{Bool, true, false, cond, not, _||_}
+use mathlib.Core.Bool.{Bool, true, false, cond, not, _&&_}
 use mathlib.Core.List.{List, [], _∷_, _++_, map}
 use mathlib.Core.Option.{Option, none, some, Option·getD}
 use lib.Dec.{eqb}
 use lib.ListN.{length, getD}
-use Rattle.paper.specs.Lists.{any, find, listFrom, concatMap, sameNumbers}
+use Rattle.paper.specs.Lists.{any, keep, find, listFrom, concatMap, sameNumbers}
 use Rattle.paper.specs.Fields.{array}
-use Rattle.paper.specs.Terms.{Term, given, Assignment}
-use Rattle.paper.specs.Edges.{Source, indexNumber, Guard, Edge, openEdges}
+use Rattle.paper.specs.Terms.{Term, given, isFixed, Assignment}
+use Rattle.paper.specs.Edges.{indexNumber, Guard, Edge, openEdges}
 use Rattle.paper.specs.Reach.{indexValue, across, over, stepCost, distances}
 use Rattle.paper.specs.Conflict.{Pair}
 
@@ -66,6 +66,17 @@ equalIndices i j = cond (eqb i j) [] (Literal.equal i j ∷ [])
 unfoldable pub hypotheses : (i j : ℕ) → List Edge → List Literal
 hypotheses i j path = onceAfter [] (equalIndices i j ++ map (λ edge. literalOf i (edge .guard)) path)
 
+-- 02, E1: "An 'equal' or 'differ' between two fixed numbers is left out of the lemma"
+abbrev pub leftOut : (ℕ → Bool) → Literal → Bool
+leftOut fixed (Literal.equal i j) = fixed i && fixed j
+leftOut fixed (Literal.differ i j) = fixed i && fixed j
+leftOut fixed (Literal.isTrue m) = false
+leftOut fixed (Literal.isFalse m) = false
+leftOut fixed (Literal.conclusion v u) = false
+
+abbrev pub stays : List Term → Literal → Bool
+stays terms l = not (leftOut (isFixed terms) l)
+
 module _ (terms : List Term) (g : Assignment) where
   -- from s's origin to t's origin, 02, E6: "The path shall have the fewest write edges, and among those the fewest edges"
   unfoldable pub path : Pair → List Edge
@@ -73,10 +84,10 @@ module _ (terms : List Term) (g : Assignment) where
       let x = indexValue g (pair .first) in
       pathFrom stepCost (given array terms) (openEdges terms g x) (distances terms g x (pair .later .origin)) (pair .first .origin)
 
-  -- "Literals, in order: .. Last the conclusion"
+  -- "Literals, in order: .. Last the conclusion"; 02, E1: "a conclusion always stays"
   unfoldable pub lemma : Pair → List Literal
   lemma pair =
-      hypotheses (indexNumber (pair .first .place)) (indexNumber (pair .later .place)) (path pair)
+      keep (stays terms) (hypotheses (indexNumber (pair .first .place)) (indexNumber (pair .later .place)) (path pair))
       ++ (Literal.conclusion (pair .first .value) (pair .later .value) ∷ [])
 
 -- what a literal says

@@ -1,11 +1,11 @@
 -- 01, Refusals by number, 1 to 9: what a string of bytes is accepted as, or refused for.
 -- Assumes nothing.
-use Prim.Native.Nat.{ℕ, zero, suc}
-use mathlib.Core.Bool.{Bool, true, false, cond, not, _&&_}
+use Prim.Native.Nat.{ℕ}
+use mathlib.Core.Bool.{Bool, false, cond, not, _&&_}
 use mathlib.Core.List.{List, [], _∷_, _++_, map}
 use mathlib.Core.Option.{Option, none, some}
 use lib.Dec.{eqb, leb, ltb}
-use lib.ListN.{length, getD}
+use lib.ListN.{length}
 use Rattle.paper.specs.Lists.{any, orElse, Test, _refuses_, firstMet, unlessRefused}
 use Rattle.paper.specs.Fields.{Series, base, boolean, array, Part, Kind, parts, gives, Item, field, broken, items}
 use Rattle.paper.specs.Terms.{Term, termOf, given, Guess, Query, assigned}
@@ -58,6 +58,7 @@ readIndex b a (Term.write own beneath index value) = none
 readIndex b a (Term.conditional own chooser ifTrue ifFalse) = none
 readIndex b a (Term.read own from index) = cond (eqb own b && eqb from a) (some index) none
 readIndex b a (Term.equality own left right leftWitness rightWitness) = none
+readIndex b a (Term.fixed own value) = none
 
 abbrev pub witnessIndex : List Term → (b a : ℕ) → Option ℕ
 witnessIndex [] b a = none
@@ -77,6 +78,7 @@ ofEquality test (Term.write own beneath index value) = false
 ofEquality test (Term.conditional own chooser ifTrue ifFalse) = false
 ofEquality test (Term.read own from index) = false
 ofEquality test (Term.equality own left right leftWitness rightWitness) = test left right leftWitness rightWitness
+ofEquality test (Term.fixed own value) = false
 
 -- 8: "a witness isn't a read, or reads another array, or the two index numbers differ"
 abbrev pub badWitnesses : List Term → (left right leftWitness rightWitness : ℕ) → Bool

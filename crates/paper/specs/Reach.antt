@@ -11,7 +11,7 @@ use lib.ListN.{getD}
 use Rattle.paper.specs.Lists.{_∈_, isSome, mapOption, bindOption, count, sum, range}
 use Rattle.paper.specs.Fields.{array}
 use Rattle.paper.specs.Terms.{Term, given, Assignment}
-use Rattle.paper.specs.Edges.{Place, indexNumber, Source, sources, Guard, Edge, edges, openEdges}
+use Rattle.paper.specs.Edges.{indexNumber, Source, sources, Guard, Edge, edges, openEdges}
 
 -- "An edge can be walked both ways"
 abbrev pub Joins : Edge → (from to : ℕ) → Type 0

@@ -1,11 +1,11 @@
 -- 01, The query: the terms that the fields give, and the guess, as two things. Each term carries its own number in its series.
 -- Assumes nothing.
-use Prim.Native.Nat.{ℕ, zero, suc}
+use Prim.Native.Nat.{ℕ}
 use mathlib.Core.Bool.{Bool, true, false}
-use mathlib.Core.List.{List, [], _∷_}
+use mathlib.Core.List.{List}
 use lib.Dec.{eqb}
 use lib.ListN.{getD}
-use Rattle.paper.specs.Lists.{count}
+use Rattle.paper.specs.Lists.{any, count}
 use Rattle.paper.specs.Fields.{Series, base, boolean, array, Kind}
 
 pub data Term : Type 0 where
@@ -14,8 +14,9 @@ pub data Term : Type 0 where
   conditional : (own chooser ifTrue ifFalse : ℕ) → Term
   read : (own from index : ℕ) → Term
   equality : (own left right leftWitness rightWitness : ℕ) → Term
+  fixed : (own value : ℕ) → Term
 
--- the term of a field with these numbers for its parts; the assigned value or truth is no part of it
+-- the term of a field with these numbers for its parts; the assigned value or truth is no part of it, but the value of a fixed number is
 abbrev pub termOf : Kind → (own : ℕ) → List ℕ → Term
 termOf Kind.freeBase own numbers = Term.freeBase own
 termOf Kind.freeBoolean own numbers = Term.freeBoolean own
@@ -24,6 +25,7 @@ termOf Kind.write own numbers = Term.write own (getD numbers 0 0) (getD numbers 
 termOf Kind.conditional own numbers = Term.conditional own (getD numbers 0 0) (getD numbers 1 0) (getD numbers 2 0)
 termOf Kind.read own numbers = Term.read own (getD numbers 0 0) (getD numbers 1 0)
 termOf Kind.equality own numbers = Term.equality own (getD numbers 0 0) (getD numbers 1 0) (getD numbers 3 0) (getD numbers 4 0)
+termOf Kind.fixed own numbers = Term.fixed own (getD numbers 0 0)
 
 abbrev pub series : Term → Series
 series (Term.freeBase own) = base
@@ -33,6 +35,7 @@ series (Term.write own beneath index value) = array
 series (Term.conditional own chooser ifTrue ifFalse) = array
 series (Term.read own from index) = base
 series (Term.equality own left right leftWitness rightWitness) = boolean
+series (Term.fixed own value) = base
 
 abbrev pub sameSeries : Series → Series → Bool
 sameSeries base base = true
@@ -48,6 +51,20 @@ sameSeries array array = true
 -- how many terms of a series are given: the number that its next term gets
 unfoldable pub given : Series → List Term → ℕ
 given wanted terms = count (λ term. sameSeries wanted (series term)) terms
+
+-- is base term b a fixed number?
+abbrev pub fixes : (b : ℕ) → Term → Bool
+fixes b (Term.freeBase own) = false
+fixes b (Term.freeBoolean own) = false
+fixes b (Term.variable own) = false
+fixes b (Term.write own beneath index value) = false
+fixes b (Term.conditional own chooser ifTrue ifFalse) = false
+fixes b (Term.read own from index) = false
+fixes b (Term.equality own left right leftWitness rightWitness) = false
+fixes b (Term.fixed own value) = eqb own b
+
+unfoldable pub isFixed : List Term → (b : ℕ) → Bool
+isFixed terms b = any (fixes b) terms
 
 -- The guess: an assigned value for each base term, an assigned truth for each Boolean, in order
 pub record Guess : Type 0 where

@@ -27,7 +27,7 @@ pub const WIDTH: usize = 32;
 
 pub const NUMBERS: u64 = 4294967296;
 
-// The tags of fields: "01 free base .. 07 equality".
+// The tags of fields: "01 free base .. 07 equality"; 02, E1: "New tag 08".
 pub const FREE_BASE: u8 = 0x01;
 
 pub const FREE_BOOLEAN: u8 = 0x02;
@@ -41,6 +41,8 @@ pub const CONDITIONAL: u8 = 0x05;
 pub const READ: u8 = 0x06;
 
 pub const EQUALITY: u8 = 0x07;
+
+pub const FIXED: u8 = 0x08;
 
 // The tags of literals: "Fields: 21 equal, 22 differ, 25 conclusion .. 23 true, 24 false".
 pub const EQUAL: u8 = 0x21;
