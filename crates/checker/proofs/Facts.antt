@@ -142,4 +142,4 @@ module _ {bytes : List ℕ} {t : Tables} {ruling : Ruling} (known : Judged bytes
     -- and are the paper's lemma
     pub lemma-is : (literals : List ℕ) (count : ℕ) → Made t numbers literals count → literalsOf (listed literals count) ≡ lemmaOf (known .query) pair
     unfolding pair
-    lemma-is literals count made = lemma-paper (known .holds) (known .graph) numbers (facts .0) literals count made
+    lemma-is literals count made = lemma-paper (known .holds) (known .graph) numbers (facts .0) (facts .1) literals count made

@@ -6,17 +6,20 @@ use Prim.Native.Nat.{ℕ, _<_, _≤_, _^_}
 use native.Mathlib.Omega.{arith}
 use mathlib.Core.Path.{_≡_, sym, ap, ap₂, _∙_, subst}
 use mathlib.Core.Logic.{_⊎_, ⊎-map, _↔_}
-use mathlib.Core.Bool.{not}
+use mathlib.Core.Bool.{Bool, not}
 use mathlib.Core.List.{List, map}
+use mathlib.Core.Option.{some}
 use lib.Dec.{eqb}
 use lib.IntN.{ℤ}
 use lib.ListN.{length, take, drop}
 use Rattle.paper.specs.Fields.{array}
-use Rattle.paper.specs.Terms.{given, Query}
-use Rattle.paper.specs.Interpretations.{Interpretation}
+use Rattle.paper.specs.Lists.{_∈_}
+use Rattle.paper.specs.Terms.{Term, given, Query, Assignment}
+use Rattle.paper.specs.Interpretations.{Memories, Interpretation}
 use Rattle.paper.specs.Interpretations as Paper
 use Rattle.paper.specs.Load.{Loaded, load}
 use Rattle.paper.specs.Cells.{Cell, cells}
+use Rattle.paper.specs.Reading.{readRun}
 use Rattle.paper.specs.Answers.{check, look, listLoaded, list, writeClauses}
 use Rattle.meaning.proofs.Built.{AreBytes}
 use Rattle.meaning.proofs.Whole.{guessOf, pairsOf}
@@ -25,8 +28,13 @@ use Rattle.meaning.proofs.Called.{look-none}
 use Rattle.meaning.proofs.Cells.{model-with}
 use Rattle.meaning.proofs.Verdict.{fits-none}
 use Rattle.meaning.proofs.Demands as Demands
-use Rattle.meaning.proofs.Demands.{Lemma, Clausal}
+use Rattle.meaning.proofs.Demands.{Lemma, Settable, RespectsFixed, Clausal}
+use Rattle.meaning.proofs.AsBits as AsBits
+use Rattle.meaning.proofs.AsBits.{BitsOf}
 use Rattle.meaning.proofs.Answered as Answered
+use Rattle.meaning.proofs.Fixed.{wholeLemma}
+use Rattle.meaning.proofs.Before as Before
+use Rattle.meaning.proofs.Before.{checkWith, writeWith}
 use Rattle.query.specs.declared.Refusal.{Refusal}
 use Rattle.checker.specs.declared.Totals.{Totals}
 use Rattle.checker.specs.declared.Checked.{Checked}
@@ -37,7 +45,7 @@ use Rattle.checker.specs.declared.Listed.{Listed}
 use Rattle.checker.specs.declared.Listed.the-variants.{Refused as NotListed, Cells}
 use Rattle.checker.specs.declared.Written.{Written}
 use Rattle.checker.specs.declared.Written.the-variants.{Refused as NotWritten, Clauses}
-use Rattle.checker.specs.Reports.{reportOf, reported, lookReportOf, writeReportOf, writeReported, CheckAllows, LookAllows, ListAllows, WriteAllows}
+use Rattle.checker.specs.Reports.{reportOf, reported, lookReportOf, writeReportOf, writeReported, CheckedAs, CheckAllows, LookAllows, ListAllows, WrittenAs, WriteAllows}
 use Rattle.checker.specs.Reports.{listReportOf, roomOf, beside}
 use Rattle.checker.proofs.Looks.{room-both}
 use Rattle.checker.proofs.Told.{checkedBy, checkTold, check-told, lookTold, look-told, listTold, list-told, indices-over, values-over, beside-with, writtenBy, writeTold, write-told, front, rest, check-over, write-over}
@@ -229,3 +237,27 @@ module _ (bytes : List ℕ) (query : Query) (are-bytes : AreBytes bytes) (loaded
       rw (front (check-over checked), front (write-over allowed), ap (λ report. report .variables) (allowed .report), ap (λ report. report .clauses) (allowed .report))
       (Demands.clauses-exactly 32 bytes query are-bytes loaded (length before) (sym (ap (λ report. report .verdict) (checked .report))) (length run-before)
       (sym (ap (λ report. report .refusal) (allowed .report))))
+
+  -- So they rule out the guess and no interpretation: there are bits that are the guess's, at which the fresh variables can't be set so that all
+  -- clauses hold, and bits that are an interpretation's, at which they can; both give each fixed number its value.
+  module _ (before after : List ℕ) (pairs long : ℕ) (checked : CheckAllows bytes before after (Conflict pairs long))
+      (run-before run-after : List ℤ) (totals : Totals) (allowed : WriteAllows bytes run-before run-after (Clauses totals))
+      (clauses : List (List ℤ)) (read : readRun (take (totals .count) run-after) ≡ some clauses) where
+    pub clauses-exclude-guess : (bits : ℕ → Bool) × BitsOf 32 query (guessOf query) bits × RespectsFixed 32 query bits × (Settable 32 query bits clauses → ⊥)
+    clauses-exclude-guess =
+        AsBits.guess-excluded 32 bytes query are-bytes loaded (length before) (sym (ap (λ report. report .verdict) (checked .report))) (length run-before)
+        (sym (ap (λ report. report .refusal) (allowed .report))) clauses (ap readRun (sym (front (write-over allowed))) ∙ read)
+
+    pub clauses-admit : (g : Assignment) (memory : Memories) → Interpretation 32 (query .terms) g memory
+        → (bits : ℕ → Bool) × BitsOf 32 query g bits × RespectsFixed 32 query bits × Settable 32 query bits clauses
+    clauses-admit =
+        AsBits.interpretation-admitted 32 bytes query are-bytes loaded (length before) (sym (ap (λ report. report .verdict) (checked .report))) (length run-before)
+        (sym (ap (λ report. report .refusal) (allowed .report))) clauses (ap readRun (sym (front (write-over allowed))) ∙ read)
+
+  -- 02, E1. A query without fixed numbers is answered as before: what `check` and `clauses` answer and write is by the lemma with nothing left out.
+  module _ (none-fixed : (own value : ℕ) → Term.fixed own value ∈ query .terms → ⊥) where
+    pub check-as-before : (before after : List ℕ) (r : Checked) → CheckAllows bytes before after r → CheckedAs (checkWith wholeLemma 32 bytes (length before)) before after r
+    check-as-before before after r allowed = subst (λ answer. CheckedAs answer before after r) (Before.answered-before 32 bytes query loaded none-fixed (length before) .0) allowed
+
+    pub clauses-as-before : (before after : List ℤ) (r : Written) → WriteAllows bytes before after r → WrittenAs (writeWith wholeLemma 32 bytes (length before)) before after r
+    clauses-as-before before after r allowed = subst (λ answer. WrittenAs answer before after r) (Before.answered-before 32 bytes query loaded none-fixed (length before) .1) allowed

@@ -50,11 +50,14 @@ pub record Judged (bytes : List ℕ) (t : Tables) (ruling : Ruling) : Type 0 whe
   pub graph : Graphed query t
   pub ruled : Ruled (opensIn t) (sourcesIn t) (t .counts .arrays) ruling
 
--- by the tables that are lent on: whatever the reads are, which only the loader needs
+-- of some bytes
+abbrev pub JudgedOn : Tables → Ruling → Type 0
+JudgedOn t ruling = (bytes : List ℕ) × Judged bytes t ruling
+
+-- by the tables that are lent on to where there is no lemma: whatever the reads are, which only the loader and the lemma need
 abbrev pub JudgedBy : (bytes values truths sources edges : List ℕ) → Counts → Ruling → Type 0
 JudgedBy bytes values truths sources edges counts ruling = (reads : List ℕ) × Judged bytes (tables values truths reads sources edges counts) ruling
 
--- of some bytes
 abbrev pub Judgeable : (values truths sources edges : List ℕ) → Counts → Ruling → Type 0
 Judgeable values truths sources edges counts ruling = (bytes : List ℕ) × JudgedBy bytes values truths sources edges counts ruling
 
@@ -67,4 +70,4 @@ pub record Paired (values truths sources edges : List ℕ) (counts : Counts) (fi
 -- their literals were made
 abbrev pub Made : Tables → Numbers → (literals : List ℕ) (count : ℕ) → Type 0
 Made t numbers literals count =
-    LemmaBetween (t .values) (t .truths) (t .edges) (t .counts .edges) (t .counts .arrays) (getD (t .sources) (numbers .first) 0) (getD (t .sources) (numbers .later) 0) literals count
+    LemmaBetween (t .values) (t .truths) (t .reads) (t .edges) (t .counts .edges) (t .counts .arrays) (getD (t .sources) (numbers .first) 0) (getD (t .sources) (numbers .later) 0) literals count

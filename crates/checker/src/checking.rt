@@ -1,7 +1,8 @@
 // The check: whether any memories fit the guess, and the bytes of the lemma where none do.
 ghost use mathlib.Core.List.{List};
 ghost use Prim.Native.Nat.{ℕ};
-ghost use Rattle.checker.specs.Fronted.{Judgeable, JudgedBy};
+ghost use Rattle.terms.specs.Tables.{tables};
+ghost use Rattle.checker.specs.Fronted.{Judged, JudgedOn};
 ghost use Rattle.checker.specs.Reports.{CheckAllows};
 use crate::Checked;
 use crate::front::Ruling;
@@ -23,14 +24,15 @@ use terms::Counts;
 fn conclude<'a>(
     values: &'a [u64; MAX_BASES],
     truths: &'a [u8; MAX_BOOLEANS],
+    reads: &'a [u16; MAX_BASES],
     sources: &'a [u32; MAX_SOURCES],
     edges: &'a [u32; MAX_EDGES],
     counts: Counts,
     ruling: Ruling,
     answer: &mut [u8],
 ) -> Checked
-    requires { ⌜ Judgeable (now values) (now truths) (now sources) (now edges) counts ruling ⌝ }
-    ensures { λ r. ⌜ ((bytes : List ℕ) → JudgedBy bytes (now (values .entry)) (now (truths .entry)) (now (sources .entry)) (now (edges .entry)) counts ruling → CheckAllows bytes (now (answer .entry)) (now (answer .exit)) r) ⌝ }
+    requires { ⌜ JudgedOn (tables (now values) (now truths) (now reads) (now sources) (now edges) counts) ruling ⌝ }
+    ensures { λ r. ⌜ ((bytes : List ℕ) → Judged bytes (tables (now (values .entry)) (now (truths .entry)) (now (reads .entry)) (now (sources .entry)) (now (edges .entry)) counts) ruling → CheckAllows bytes (now (answer .entry)) (now (answer .exit)) r) ⌝ }
 {
     let found = ruling.found;
     match found {
@@ -40,6 +42,7 @@ fn conclude<'a>(
             let count = pair_literals(
                 values,
                 truths,
+                reads,
                 sources,
                 edges,
                 counts,
@@ -85,6 +88,7 @@ pub fn check(query: &[u8], answer: &mut [u8]) -> Checked
     conclude(
         &values,
         &truths,
+        &reads,
         &sources,
         &edges,
         front.counts,

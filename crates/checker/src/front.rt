@@ -160,6 +160,7 @@ pub fn judge(
 pub fn pair_literals<'a>(
     values: &'a [u64; MAX_BASES],
     truths: &'a [u8; MAX_BOOLEANS],
+    reads: &'a [u16; MAX_BASES],
     sources: &'a [u32; MAX_SOURCES],
     edges: &'a [u32; MAX_EDGES],
     counts: Counts,
@@ -168,11 +169,21 @@ pub fn pair_literals<'a>(
     literals: &mut [u32; MAX_LITERALS],
 ) -> usize
     requires { ⌜ Paired (now values) (now truths) (now sources) (now edges) counts first later (now literals) ⌝ }
-    ensures { λ r. ⌜ LemmaBetween (now (values .entry)) (now (truths .entry)) (now (edges .entry)) (counts .edges) (counts .arrays) (getD (now (sources .entry)) first 0) (getD (now (sources .entry)) later 0) (now (literals .exit)) r ⌝ }
+    ensures { λ r. ⌜ LemmaBetween (now (values .entry)) (now (truths .entry)) (now (reads .entry)) (now (edges .entry)) (counts .edges) (counts .arrays) (getD (now (sources .entry)) first 0) (getD (now (sources .entry)) later 0) (now (literals .exit)) r ⌝ }
 {
     let ways = counts.edges as usize;
     let arrays = counts.arrays as usize;
     let one = sources[first];
     let other = sources[later];
-    literals_between(values, truths, edges, ways, arrays, one, other, literals)
+    literals_between(
+        values,
+        truths,
+        reads,
+        edges,
+        ways,
+        arrays,
+        one,
+        other,
+        literals,
+    )
 }

@@ -1,7 +1,8 @@
 // The clause writer: the clauses of the lemma of a query in conflict.
 ghost use mathlib.Core.List.{List};
 ghost use Prim.Native.Nat.{ℕ};
-ghost use Rattle.checker.specs.Fronted.{Judgeable, JudgedBy};
+ghost use Rattle.terms.specs.Tables.{tables};
+ghost use Rattle.checker.specs.Fronted.{Judged, JudgedOn};
 ghost use Rattle.checker.specs.Reports.{WriteAllows};
 use crate::Totals;
 use crate::Written;
@@ -24,14 +25,15 @@ use terms::Counts;
 fn write<'a>(
     values: &'a [u64; MAX_BASES],
     truths: &'a [u8; MAX_BOOLEANS],
+    reads: &'a [u16; MAX_BASES],
     sources: &'a [u32; MAX_SOURCES],
     edges: &'a [u32; MAX_EDGES],
     counts: Counts,
     ruling: Ruling,
     numbers: &mut [i32],
 ) -> Written
-    requires { ⌜ Judgeable (now values) (now truths) (now sources) (now edges) counts ruling ⌝ }
-    ensures { λ r. ⌜ ((bytes : List ℕ) → JudgedBy bytes (now (values .entry)) (now (truths .entry)) (now (sources .entry)) (now (edges .entry)) counts ruling → WriteAllows bytes (now (numbers .entry)) (now (numbers .exit)) r) ⌝ }
+    requires { ⌜ JudgedOn (tables (now values) (now truths) (now reads) (now sources) (now edges) counts) ruling ⌝ }
+    ensures { λ r. ⌜ ((bytes : List ℕ) → Judged bytes (tables (now (values .entry)) (now (truths .entry)) (now (reads .entry)) (now (sources .entry)) (now (edges .entry)) counts) ruling → WriteAllows bytes (now (numbers .entry)) (now (numbers .exit)) r) ⌝ }
 {
     let found = ruling.found;
     match found {
@@ -44,6 +46,7 @@ fn write<'a>(
             let count = pair_literals(
                 values,
                 truths,
+                reads,
                 sources,
                 edges,
                 counts,
@@ -96,6 +99,7 @@ pub fn clauses(query: &[u8], numbers: &mut [i32]) -> Written
     write(
         &values,
         &truths,
+        &reads,
         &sources,
         &edges,
         front.counts,

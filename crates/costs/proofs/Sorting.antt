@@ -12,7 +12,7 @@ use Rattle.paper.specs.Edges.{Guard, Edge}
 use Rattle.paper.specs.Reach.{isWrite}
 use Rattle.terms.specs.Tables.{edgesIn}
 use Rattle.terms.specs.declared.graph.Way.{Way}
-use Rattle.terms.proofs.Ways.{keep-append}
+use Rattle.meaning.proofs.Lists.{keep-append}
 use Rattle.terms.specs.Graph.{openIn, guardOf, wayEdges, Each}
 use Rattle.reach.specs.Steps.{Adjacent, EndsBelow, withEdge}
 use Rattle.costs.specs.Levels.{Sorted}

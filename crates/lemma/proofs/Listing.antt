@@ -41,6 +41,18 @@ stands-same literals {literal} row standing says =
     ∙ ap (λ (l : Literal). sameLiteral l (literalAt literals k)) (says .same))
     ∙ sym (any-map (sameLiteral literal) (literalAt literals) (range 0 (literals .count)))
 
+-- a row that is stored says the list's last literal
+pub stored-last : (literals : Literals) (row : ℕ) → literals .count < length (literals .rows) → literalsOf (stored literals row) ≡ literalsOf literals ++ (literalIn row ∷ [])
+unfolding literalsOf
+stored-last literals row fits =
+    rw (range-last (literals .count), map-append (literalAt (stored literals row)))
+    (ap₂ (λ (before : List Literal) (last : Literal). before ++ (last ∷ []))
+    (map-same (literalAt (stored literals row)) (literalAt literals) (range 0 (literals .count)) (λ k here. earlier k (omega (arith, range-in 0 (literals .count) here .1))))
+    (ap literalIn (getD-set-same (literals .rows) (literals .count) row 0 fits)))
+  where
+    earlier : (k : ℕ) → k < literals .count → literalAt (stored literals row) k ≡ literalAt literals k
+    earlier k below = ap literalIn (getD-set-other (literals .rows) (literals .count) k row 0 (omega arith))
+
 module _ (literals : Literals) {literal : Literal} (row : ℕ) (standing : Standing literals) (room : literals .count < 49) (says : Says literal row) where
   fits : literals .count < length (literals .rows)
   fits = omega (arith, standing .roomy)
@@ -58,15 +70,7 @@ module _ (literals : Literals) {literal : Literal} (row : ℕ) (standing : Stand
       }
 
   pub stored-more : literalsOf (stored literals row) ≡ literalsOf literals ++ (literal ∷ [])
-  unfolding literalsOf
-  stored-more =
-      rw (range-last (literals .count), map-append (literalAt (stored literals row)))
-      (ap₂ (λ (before : List Literal) (last : Literal). before ++ (last ∷ []))
-      (map-same (literalAt (stored literals row)) (literalAt literals) (range 0 (literals .count)) (λ k here. earlier k (omega (arith, range-in 0 (literals .count) here .1))))
-      (ap literalIn (getD-set-same (literals .rows) (literals .count) row 0 fits) ∙ says .same))
-    where
-      earlier : (k : ℕ) → k < literals .count → literalAt (stored literals row) k ≡ literalAt literals k
-      earlier k below = ap literalIn (getD-set-other (literals .rows) (literals .count) k row 0 (omega arith))
+  stored-more = stored-last literals row fits ∙ ap (λ (last : Literal). literalsOf literals ++ (last ∷ [])) (says .same)
 
 -- what stood earlier counts as a set: the order is of no account
 once-same : (one other : List Literal) → ((l : Literal) → any (sameLiteral l) one ≡ any (sameLiteral l) other) → (literals : List Literal) → onceAfter one literals ≡ onceAfter other literals

@@ -6,6 +6,7 @@ use mathlib.Core.Bool.{true}
 use mathlib.Core.List.{List}
 use lib.ListN.{length, getD}
 use Rattle.paper.specs.Sizes.{maxArrays, maxLiterals}
+use Rattle.paper.specs.Lists.{keep}
 use Rattle.paper.specs.Edges.{Edge}
 use Rattle.paper.specs.Reach.{near, stepCost}
 use Rattle.paper.specs.Lemma.{pathFrom}
@@ -13,6 +14,7 @@ use Rattle.reach.specs.Reached.{openTo, reachedIn}
 use Rattle.reach.specs.Steps.{Lent}
 use Rattle.lemma.specs.Rows.{listed, literalsOf, Proper}
 use Rattle.lemma.specs.Literals.{literalsFor}
+use Rattle.lemma.specs.Fixed.{staysBy}
 
 -- an array term reaches another over the edges open to index value x, and there is room for the path between them
 pub record Reachable (values truths edges : List ℕ) (ways x arrays from goal : ℕ) (path : List ℕ) : Type 0 where
@@ -40,7 +42,8 @@ pathOver values truths edges ways arrays x from goal =
     let among = openTo values truths edges ways x in
     pathFrom stepCost arrays among (near stepCost among arrays goal arrays) from
 
--- "Literals, in order: .. Last the conclusion", along the path from the one origin to the other
-pub record LemmaBetween (values truths edges : List ℕ) (ways arrays one other : ℕ) (literals : List ℕ) (count : ℕ) : Type 0 where
-  pub same : literalsOf (listed literals count) ≡ literalsFor one other (pathOver values truths edges ways arrays (indexValueOf values one) (one % 256) (other % 256))
+-- "Literals, in order: .. Last the conclusion", along the path from the one origin to the other, and of them those that stay
+pub record LemmaBetween (values truths reads edges : List ℕ) (ways arrays one other : ℕ) (literals : List ℕ) (count : ℕ) : Type 0 where
+  pub same : literalsOf (listed literals count)
+      ≡ keep (staysBy reads) (literalsFor one other (pathOver values truths edges ways arrays (indexValueOf values one) (one % 256) (other % 256)))
   pub proper : Proper (listed literals count)

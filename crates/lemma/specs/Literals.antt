@@ -57,3 +57,4 @@ literalsFor one other path =
 pub record LemmaOf (e : EdgeTable) (x : ℕ) (path : List ℕ) (steps one other : ℕ) (literals : Literals) : Type 0 where
   pub same : literalsOf literals ≡ literalsFor one other (walkedBy e x path steps)
   pub proper : Proper literals
+  pub roomy : length (literals .rows) ≡ maxLiterals

@@ -1,4 +1,5 @@
-// The literals between two sources (01, The lemma): the path from the one to the other, and what it says.
+// The literals between two sources (01, The lemma): the path from the one to the other, what it says, and of that what stays (02, E1).
+use crate::fixed::leave_out;
 use crate::literal::literals_of;
 use crate::paths::least_path;
 use paper::MAX_ARRAYS;
@@ -49,6 +50,7 @@ fn path_between<'a>(
 pub fn literals_between<'a>(
     values: &'a [u64; MAX_BASES],
     truths: &'a [u8; MAX_BOOLEANS],
+    reads: &'a [u16; MAX_BASES],
     edges: &'a [u32; MAX_EDGES],
     ways: usize,
     arrays: usize,
@@ -57,7 +59,7 @@ pub fn literals_between<'a>(
     literals: &mut [u32; MAX_LITERALS],
 ) -> usize
     requires { ⌜ Ready (now values) (now truths) (now edges) ways arrays one other (now literals) ⌝ }
-    ensures { λ r. ⌜ LemmaBetween (now (values .entry)) (now (truths .entry)) (now (edges .entry)) ways arrays one other (now (literals .exit)) r ⌝ }
+    ensures { λ r. ⌜ LemmaBetween (now (values .entry)) (now (truths .entry)) (now (reads .entry)) (now (edges .entry)) ways arrays one other (now (literals .exit)) r ⌝ }
 {
     let x = index_value(values, one);
     let from = origin_of(one);
@@ -74,7 +76,7 @@ pub fn literals_between<'a>(
         goal,
         &mut path,
     );
-    literals_of(
+    let whole = literals_of(
         values,
         truths,
         edges,
@@ -85,5 +87,6 @@ pub fn literals_between<'a>(
         one,
         other,
         literals,
-    )
+    );
+    leave_out(reads, literals, whole)
 }

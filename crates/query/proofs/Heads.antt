@@ -17,7 +17,7 @@ use Rattle.paper.specs.Fields.{Kind, Item, kinds, kindOf, parts, ownLength, cut
 use Rattle.query.specs.Standing.{end, broken, field, ofItem, standing}
 use Rattle.query.proofs.Bytes.{twoAt}
 
-pub unknown-above : (tag : ℕ) → 7 < tag → kindOf tag ≡ none
+pub unknown-above : (tag : ℕ) → 8 < tag → kindOf tag ≡ none
 unknown-above tag h = List·getD-eq-default kinds none h
 
 pub unknown-none : (tag : ℕ) → tag < 1 → kindOf tag ≡ none
@@ -25,7 +25,7 @@ unknown-none zero h = refl
 unknown-none (suc tag) h = absurd (omega arith)
 
 -- a tag of the table is known
-pub known-within : (tag : ℕ) → 1 ≤ tag → tag ≤ 7 → isSome (kindOf tag) ≡ true
+pub known-within : (tag : ℕ) → 1 ≤ tag → tag ≤ 8 → isSome (kindOf tag) ≡ true
 known-within zero low high = absurd (omega arith)
 known-within (suc zero) low high = refl
 known-within (suc (suc zero)) low high = refl
@@ -34,21 +34,22 @@ known-within (suc (suc (suc (suc zero)))) low high = refl
 known-within (suc (suc (suc (suc (suc zero))))) low high = refl
 known-within (suc (suc (suc (suc (suc (suc zero)))))) low high = refl
 known-within (suc (suc (suc (suc (suc (suc (suc zero))))))) low high = refl
-known-within (suc (suc (suc (suc (suc (suc (suc (suc tag)))))))) low high = absurd (omega arith)
+known-within (suc (suc (suc (suc (suc (suc (suc (suc zero)))))))) low high = refl
+known-within (suc (suc (suc (suc (suc (suc (suc (suc (suc tag))))))))) low high = absurd (omega arith)
 
 -- the code's test of a tag
-pub unknown-test : (tag : ℕ) → 1 ≤ tag → not (isSome (kindOf tag)) ≡ ltb 7 tag
-unknown-test tag low = go (decLe tag 7)
+pub unknown-test : (tag : ℕ) → 1 ≤ tag → not (isSome (kindOf tag)) ≡ ltb 8 tag
+unknown-test tag low = go (decLe tag 8)
   where
-    go : Dec (tag ≤ 7) → not (isSome (kindOf tag)) ≡ ltb 7 tag
-    go (yes h) = simp (known-within tag low h, le-ltb 7 tag h)
+    go : Dec (tag ≤ 8) → not (isSome (kindOf tag)) ≡ ltb 8 tag
+    go (yes h) = simp (known-within tag low h, le-ltb 8 tag h)
     go (no h) =
-        let above : 7 < tag = omega arith in
-        simp (unknown-above tag above, lt-ltb 7 tag above)
+        let above : 8 < tag = omega arith in
+        simp (unknown-above tag above, lt-ltb 8 tag above)
 
 -- a tag that is known stands in the table
-pub known-tag : (tag : ℕ) → not (isSome (kindOf tag)) ≡ false → (1 ≤ tag) × (tag ≤ 7)
-known-tag tag known = (low (decLe 1 tag), high (decLe tag 7))
+pub known-tag : (tag : ℕ) → not (isSome (kindOf tag)) ≡ false → (1 ≤ tag) × (tag ≤ 8)
+known-tag tag known = (low (decLe 1 tag), high (decLe tag 8))
   where
     impossible : kindOf tag ≡ none → ⊥
     impossible e = let z : _≡_ {A = ℕ} 0 1 = cc in omega arith
@@ -57,9 +58,21 @@ known-tag tag known = (low (decLe 1 tag), high (decLe tag 7))
     low (yes h) = h
     low (no h) = absurd (impossible (unknown-none tag (omega arith)))
 
-    high : Dec (tag ≤ 7) → tag ≤ 7
+    high : Dec (tag ≤ 8) → tag ≤ 8
     high (yes h) = h
     high (no h) = absurd (impossible (unknown-above tag (omega arith)))
+
+-- and where it is none of the others it is the last
+past-three : (tag : ℕ) → 1 ≤ tag → (tag ≡ 1 → ⊥) → (tag ≡ 2 → ⊥) → (tag ≡ 3 → ⊥) → 4 ≤ tag
+past-three tag low one two three = omega arith
+
+past-seven : (tag : ℕ) → 4 ≤ tag → tag ≤ 8 → (tag ≡ 4 → ⊥) → (tag ≡ 5 → ⊥) → (tag ≡ 6 → ⊥) → (tag ≡ 7 → ⊥) → tag ≡ 8
+past-seven tag low high four five six seven = omega arith
+
+pub last-tag : (tag : ℕ) → 1 ≤ tag → tag ≤ 8
+    → (((((((Unit {0} × (tag ≡ 1 → ⊥)) × (tag ≡ 2 → ⊥)) × (tag ≡ 3 → ⊥)) × (tag ≡ 4 → ⊥)) × (tag ≡ 5 → ⊥)) × (tag ≡ 6 → ⊥)) × (tag ≡ 7 → ⊥)) → tag ≡ 8
+last-tag tag low high (((((((u, one), two), three), four), five), six), seven) =
+    past-seven tag (past-three tag low one two three) high four five six seven
 
 -- A head's tests, in their order
 

@@ -9,7 +9,7 @@ use lib.Dec.{ltb}
 use lib.ListN.{length, drop}
 use Rattle.paper.specs.Fields.{Kind, Item, kindOf, parts, cut, lengthAt, itemAt}
 use Rattle.query.specs.declared.Field.{Field}
-use Rattle.query.specs.declared.Field.the-variants.{FreeBase, FreeBoolean, Variable, Write, Conditional, Read, Equality}
+use Rattle.query.specs.declared.Field.the-variants.{FreeBase, FreeBoolean, Variable, Write, Conditional, Read, Equality, Fixed}
 use Rattle.query.specs.declared.Decoded.{Decoded}
 use Rattle.query.specs.declared.Decoded.the-variants.{Next, End, Refused}
 
@@ -37,6 +37,7 @@ kindOfField (Write p) = Kind.write
 kindOfField (Conditional p) = Kind.conditional
 kindOfField (Read p) = Kind.read
 kindOfField (Equality p) = Kind.equality
+kindOfField (Fixed value) = Kind.fixed
 
 abbrev pub numbersOf : Field → List ℕ
 numbersOf (FreeBase value) = value ∷ []
@@ -46,6 +47,7 @@ numbersOf (Write p) = p .beneath ∷ p .index ∷ p .value ∷ []
 numbersOf (Conditional p) = p .chooser ∷ p .«if_true» ∷ p .«if_false» ∷ []
 numbersOf (Read p) = p .from ∷ p .index ∷ p .value ∷ []
 numbersOf (Equality p) = p .left ∷ p .right ∷ p .truth ∷ p .«left_witness» ∷ p .«right_witness» ∷ []
+numbersOf (Fixed value) = value ∷ []
 
 abbrev pub standingOf : Decoded → Standing
 standingOf (Next f next) = field (kindOfField f) (numbersOf f) next

@@ -1,4 +1,4 @@
-// Reads the fields of a query where they stand (01, The query): what stands at a place is a field of one of the seven kinds with its parts, the end, or a refusal.
+// Reads the fields of a query where they stand (01, The query): what stands at a place is a field of one of the eight kinds with its parts, the end, or a refusal.
 ghost use mathlib.Core.Path.{_≡_};
 ghost use mathlib.Core.Bool.{not};
 ghost use Prim.Native.Nat.{ℕ, _+_, _/_, _^_, _<_, _≤_};
@@ -8,6 +8,7 @@ ghost use Rattle.paper.specs.Fields.{kindOf, ownLength};
 ghost use Rattle.query.specs.Standing.{Carries, broken, standing, standingOf};
 use paper::CONDITIONAL;
 use paper::EQUALITY;
+use paper::FIXED;
 use paper::FREE_BASE;
 use paper::FREE_BOOLEAN;
 use paper::READ;
@@ -46,7 +47,7 @@ pub struct EqualityParts {
     pub right_witness: u16,
 }
 
-// "Each field is one of these seven kinds with its own parts."
+// "Each field is one of these seven kinds with its own parts"; 02, E1: a fixed number is the eighth.
 pub enum Field {
     FreeBase(u64),
     FreeBoolean(u8),
@@ -55,6 +56,7 @@ pub enum Field {
     Conditional(ConditionalParts),
     Read(ReadParts),
     Equality(EqualityParts),
+    Fixed(u64),
 }
 
 pub struct Refusal {
@@ -108,12 +110,12 @@ fn unknown(tag: u8) -> bool
     if tag < FREE_BASE {
         return true;
     }
-    EQUALITY < tag
+    FIXED < tag
 }
 
 // The table's column of lengths; an assigned value takes the width.
 fn own_length(tag: u8, width: usize) -> usize
-    requires { ⌜ (1 ≤ tag) × (tag ≤ 7) × (width ≤ 64) ⌝ }
+    requires { ⌜ (1 ≤ tag) × (tag ≤ 8) × (width ≤ 64) ⌝ }
     ensures { λ r. ⌜ r ≡ ownLength width (kindOf tag) ⌝ }
 {
     let value = width / 8;
@@ -124,7 +126,8 @@ fn own_length(tag: u8, width: usize) -> usize
         WRITE => 6,
         CONDITIONAL => 6,
         READ => 4 + value,
-        _ => 9,
+        EQUALITY => 9,
+        _ => value,
     }
 }
 
@@ -192,7 +195,7 @@ fn equality_at(query: &[u8], at: usize) -> Field
 
 // The field whose value stands at a place, by its tag.
 fn field_at(query: &[u8], at: usize, tag: u8, width: usize) -> Field
-    requires { ⌜ (1 ≤ tag) × (tag ≤ 7) × (width ≤ 64) × (at + ownLength width (kindOf tag) ≤ length (now query)) ⌝ }
+    requires { ⌜ (1 ≤ tag) × (tag ≤ 8) × (width ≤ 64) × (at + ownLength width (kindOf tag) ≤ length (now query)) ⌝ }
     ensures { λ r. ⌜ Carries width tag (drop at (now (query .entry))) r ⌝ }
 {
     match tag {
@@ -208,7 +211,11 @@ fn field_at(query: &[u8], at: usize, tag: u8, width: usize) -> Field
         WRITE => write_at(query, at),
         CONDITIONAL => conditional_at(query, at),
         READ => read_at(query, at, width),
-        _ => equality_at(query, at),
+        EQUALITY => equality_at(query, at),
+        _ => {
+            let bytes = width / 8;
+            Field::Fixed(number_at(query, at, bytes))
+        }
     }
 }
 

@@ -6,21 +6,22 @@ use native.Mathlib.Numerals.{add-one}
 use native.Mathlib.Omega.{arith}
 use mathlib.Core.Path.{_≡_, refl, sym, ap, ap₂, _∙_}
 use mathlib.Core.Logic.{_≢_}
-use mathlib.Core.Bool.{Bool, true, false, cond, _&&_}
+use mathlib.Core.Bool.{Bool, true, false, cond, _&&_, _||_, or-false}
 use mathlib.Core.List.{List, [], _∷_, _++_, map, append-nil}
 use mathlib.Core.Option.{Option, none, some}
 use lib.Dec.{eqb}
 use lib.ListN.{getD, set, take, length-set, List·getD-map}
 use lib.Seq.{getD-set-same, getD-set-other, getD-take, take-suc-set}
 use borrow.Author.Tests.{eqb-true, eqb-false, ne-eqb}
-use Rattle.paper.specs.Lists.{orElse, concatMap}
+use Rattle.paper.specs.Lists.{any, orElse, concatMap}
 use Rattle.paper.specs.Fields.{Series, base, boolean, array}
-use Rattle.paper.specs.Terms.{Term, series, sameSeries, given}
+use Rattle.paper.specs.Terms.{Term, series, sameSeries, given, fixes, isFixed}
 use Rattle.paper.specs.Load.{readIndex, witnessIndex}
 use Rattle.paper.specs.Edges.{sourceOf, sources, edgeOf, edges}
 use Rattle.meaning.proofs.Lists.{concatMap-append}
 use Rattle.meaning.proofs.Placed.{given-append}
 use Rattle.terms.specs.declared.Counts.{Counts}
+use Rattle.terms.specs.Tables.{fixedMark, fixedIn}
 use Rattle.terms.specs.Faults.{countIn}
 use Rattle.terms.specs.Holds.{Column, Counted, ReadsFound, asIs, asTrue}
 
@@ -143,18 +144,52 @@ witness-append (term ∷ before) after b a = go (readIndex b a term) (witness-ap
     go none below = below
     go (some i) below = refl
 
+-- the fixed numbers with one term more
+fixed-append : (terms : List Term) (term : Term) (b : ℕ) → isFixed (terms ++ (term ∷ [])) b ≡ (isFixed terms b || fixes b term)
+unfolding isFixed
+fixed-append [] term b = or-false (fixes b term)
+fixed-append (first ∷ terms) term b = go (fixes b first) (fixed-append terms term b)
+  where
+    go : (here : Bool) → any (fixes b) (terms ++ (term ∷ [])) ≡ (any (fixes b) terms || fixes b term)
+        → (here || any (fixes b) (terms ++ (term ∷ []))) ≡ ((here || any (fixes b) terms) || fixes b term)
+    go true below = refl
+    go false below = below
+
 -- the reads with one term more
 module _ {bases : ℕ} {reads : List ℕ} {terms : List Term} (held : ReadsFound bases reads terms) (term : Term) where
-  pub no-read-more : ((b a : ℕ) → readIndex b a term ≡ none) → ReadsFound bases reads (terms ++ (term ∷ []))
-  no-read-more no-read = record { long = held .long; within = λ b a below small. stays b a ∙ held .within b a below small; past = λ b a beyond small. stays b a ∙ held .past b a beyond small }
+  pub no-read-more : ((b a : ℕ) → readIndex b a term ≡ none) → ((b : ℕ) → fixes b term ≡ false) → ReadsFound bases reads (terms ++ (term ∷ []))
+  no-read-more no-read not-fixed =
+      record {
+        long = held .long;
+        within = λ b a below small. stays b a ∙ held .within b a below small;
+        past = λ b a beyond small. stays b a ∙ held .past b a beyond small;
+        fixed = λ b below. stays-fixed b ∙ held .fixed b below;
+        fixed-past = λ b beyond. stays-fixed b ∙ held .fixed-past b beyond;
+      }
     where
       stays : (b a : ℕ) → witnessIndex (terms ++ (term ∷ [])) b a ≡ witnessIndex terms b a
       stays b a = witness-append terms (term ∷ []) b a ∙ rw (no-read b a) (or-none (witnessIndex terms b a))
 
+      stays-fixed : (b : ℕ) → isFixed (terms ++ (term ∷ [])) b ≡ isFixed terms b
+      stays-fixed b = fixed-append terms term b ∙ rw (not-fixed b) (or-false (isFixed terms b))
+
   pub read-more : bases < 256 → (x : ℕ) → ((b a : ℕ) → a < 255 → readIndex b a term ≡ cond (eqb bases b && eqb (x % 256) a) (some (x / 256)) none)
-      → ReadsFound (bases + 1) (set reads bases x) (terms ++ (term ∷ []))
-  read-more room x its = record { long = length-set reads bases x ∙ held .long; within = within; past = past }
+      → ((b : ℕ) → fixes b term ≡ (eqb bases b && eqb x fixedMark)) → ReadsFound (bases + 1) (set reads bases x) (terms ++ (term ∷ []))
+  read-more room x its marks = record { long = length-set reads bases x ∙ held .long; within = within; past = past; fixed = fixed; fixed-past = fixed-past }
     where
+      fixed-past : (b : ℕ) → bases + 1 ≤ b → isFixed (terms ++ (term ∷ [])) b ≡ false
+      fixed-past b beyond = fixed-append terms term b ∙ rw (held .fixed-past b (omega arith), marks b, ne-eqb bases b (λ e. omega arith))
+
+      fixed : (b : ℕ) → b < bases + 1 → isFixed (terms ++ (term ∷ [])) b ≡ fixedIn (set reads bases x) b
+      fixed b below = fixed-append terms term b ∙ ap (λ (own : Bool). isFixed terms b || own) (marks b) ∙ one-of (eqb bases b) refl
+        where
+          one-of : (same : Bool) → eqb bases b ≡ same → (isFixed terms b || (same && eqb x fixedMark)) ≡ eqb (getD (set reads bases x) b 0) fixedMark
+          one-of true e =
+              rw (held .fixed-past b (omega (arith, eqb-true bases b e)), sym (eqb-true bases b e), getD-set-same reads bases x 0 (omega (arith, held .long)))
+          one-of false e =
+              let other : b ≢ bases = λ same. eqb-false bases b e (sym same) in
+              rw (or-false (isFixed terms b), getD-set-other reads bases b x 0 other) (held .fixed b (omega (arith, other)))
+
       past : (b a : ℕ) → bases + 1 ≤ b → a < 255 → witnessIndex (terms ++ (term ∷ [])) b a ≡ none
       past b a beyond small = rw (witness-append terms (term ∷ []) b a, held .past b a (omega arith) small, its b a small, ne-eqb bases b (λ e. omega arith))
 

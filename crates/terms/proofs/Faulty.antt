@@ -15,7 +15,7 @@ use Rattle.paper.specs.Load.{isFull, namesUngiven, sameIndex, ofEquality, badWi
 use Rattle.query.specs.Standing.{kindOfField, numbersOf}
 use Rattle.query.specs.declared.EqualityParts.{EqualityParts}
 use Rattle.query.specs.declared.Field.{Field}
-use Rattle.query.specs.declared.Field.the-variants.{FreeBase, FreeBoolean, Variable, Write, Conditional, Read, Equality}
+use Rattle.query.specs.declared.Field.the-variants.{FreeBase, FreeBoolean, Variable, Write, Conditional, Read, Equality, Fixed}
 use Rattle.terms.specs.declared.Counts.{Counts}
 use Rattle.terms.specs.Tables.{Tables}
 use Rattle.terms.specs.Faults.{countIn, badWitnessesBy, equalWitnessesBy, ofEqualityField, truthsOf, faultBy}
@@ -83,6 +83,7 @@ module _ (query : Query) (t : Tables) (held : Holds query t) where
   last-same (Equality p) e =
       let names = named (t .counts) (Equality p) e in
       ap₂ (lastThree (truthsOf (Equality p))) (bad-same p names) (equal-same p names)
+  last-same (Fixed value) e = refl
 
   pub fault-same : (field : Field) → faultBy (t .reads) (t .values) (t .counts) field ≡ firstMet (faults query (kindOfField field) (numbersOf field))
   unfolding faults

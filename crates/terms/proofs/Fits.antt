@@ -12,7 +12,7 @@ use Rattle.paper.specs.Terms.{Term}
 use Rattle.paper.specs.Load.{eachPart, asUngiven, isFull, namesUngiven}
 use Rattle.query.specs.Standing.{kindOfField, numbersOf}
 use Rattle.query.specs.declared.Field.{Field}
-use Rattle.query.specs.declared.Field.the-variants.{FreeBase, FreeBoolean, Variable, Write, Conditional, Read, Equality}
+use Rattle.query.specs.declared.Field.the-variants.{FreeBase, FreeBoolean, Variable, Write, Conditional, Read, Equality, Fixed}
 use Rattle.terms.specs.declared.Counts.{Counts}
 use Rattle.terms.specs.Tables.{Room}
 use Rattle.terms.specs.Faults.{countIn, faultBy}
@@ -43,6 +43,7 @@ Named c (Write p) = (p .beneath < c .arrays) × (p .index < c .bases) × (p .val
 Named c (Conditional p) = (p .chooser < c .booleans) × (p .«if_true» < c .arrays) × (p .«if_false» < c .arrays)
 Named c (Read p) = (p .from < c .arrays) × (p .index < c .bases)
 Named c (Equality p) = (p .left < c .arrays) × (p .right < c .arrays) × (p .«left_witness» < c .bases) × (p .«right_witness» < c .bases)
+Named c (Fixed value) = Unit {0}
 
 pub named : (c : Counts) (field : Field) → namesUngiven (countIn c) (kindOfField field) (numbersOf field) ≡ false → Named c field
 named c field e = go field (all-false (eachPart (asUngiven (countIn c)) (parts (kindOfField field)) (numbersOf field)) e)
@@ -55,6 +56,7 @@ named c field e = go field (all-false (eachPart (asUngiven (countIn c)) (parts (
     go (Conditional p) false-all = omega (arith, leb-false)
     go (Read p) false-all = omega (arith, leb-false)
     go (Equality p) false-all = omega (arith, leb-false)
+    go (Fixed value) false-all = tt
 
 pub roomy : {c : Counts} {terms : List Term} → Counted c terms → (field : Field) → isFull (countIn c) (kindOfField field) ≡ false → Room field c
 roomy held (FreeBase value) e = omega (arith, leb-false)
@@ -64,6 +66,7 @@ roomy held (Write p) e = omega (arith, leb-false)
 roomy held (Conditional p) e = omega (arith, leb-false)
 roomy held (Read p) e = omega (arith, leb-false)
 roomy held (Equality p) e = omega (arith, leb-false)
+roomy held (Fixed value) e = omega (arith, leb-false)
 
 module _ (reads values : List ℕ) (c : Counts) (field : Field) (faultless : faultBy reads values c field ≡ 0) where
   passed : (isFull (countIn c) (kindOfField field) ≡ false) × (namesUngiven (countIn c) (kindOfField field) (numbersOf field) ≡ false)

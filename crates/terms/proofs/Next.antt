@@ -2,8 +2,8 @@
 -- Assumes nothing.
 use Prim.Native.Nat.{ℕ, _+_, _/_, _%_, _<_}
 use native.Mathlib.Omega.{arith}
-use mathlib.Core.Path.{_≡_, refl, sym, ap, subst}
-use mathlib.Core.Bool.{cond, _&&_, and-false}
+use mathlib.Core.Path.{_≡_, refl, sym, ap, _∙_, subst}
+use mathlib.Core.Bool.{cond, _&&_, false, and-false, and-true}
 use mathlib.Core.List.{List, [], _∷_, _++_, map}
 use mathlib.Core.Option.{none, some}
 use lib.Dec.{eqb}
@@ -14,8 +14,8 @@ use Rattle.paper.specs.Load.{eachPart, asValue, asTruth, extend}
 use Rattle.paper.specs.Edges.{sources, edges}
 use Rattle.query.specs.Standing.{kindOfField, numbersOf}
 use Rattle.query.specs.declared.Field.{Field}
-use Rattle.query.specs.declared.Field.the-variants.{FreeBase, FreeBoolean, Variable, Write, Conditional, Read, Equality}
-use Rattle.terms.specs.Tables.{Tables, readRow, sourceRow, edgeRow, edgesIn, putIn, Room}
+use Rattle.query.specs.declared.Field.the-variants.{FreeBase, FreeBoolean, Variable, Write, Conditional, Read, Equality, Fixed}
+use Rattle.terms.specs.Tables.{Tables, noRead, fixedMark, readRow, sourceRow, edgeRow, edgesIn, putIn, Room}
 use Rattle.terms.specs.Faults.{countIn, faultBy}
 use Rattle.terms.specs.Holds.{Holds, Column, asSource}
 use Rattle.terms.proofs.Columns.{kept, pushed, sources-more, edges-more, base-more, boolean-more, array-more, no-read-more, read-more}
@@ -34,9 +34,15 @@ grown query own kind numbers =
           };
     }
 
--- a base term that is no read reads 255, which no array has for its number
-no-read : (own b a : ℕ) → a < 255 → none ≡ cond (eqb own b && eqb (255 % 256) a) (some (255 / 256)) none
-no-read own b a small = rw (ne-eqb 255 a (λ e. omega arith), and-false)
+-- a base term that is no read has what stands for one, of array 255, which no array has for its number
+no-read : (x own b a : ℕ) → x % 256 ≡ 255 → a < 255 → none ≡ cond (eqb own b && eqb (x % 256) a) (some (x / 256)) none
+no-read x own b a is small = rw (is, ne-eqb 255 a (λ e. omega arith), and-false)
+
+-- a read is not marked as a fixed number
+read-unmarked : (from index : ℕ) → from < 255 → index < 256 → eqb (readRow from index) fixedMark ≡ false
+read-unmarked from index small low =
+    ne-eqb (readRow from index) fixedMark
+    (λ marked. let is : from ≡ 255 = sym (read-from from index (omega arith) low) ∙ ap (λ (x : ℕ). x % 256) marked in omega arith)
 
 module _ {query : Query} {t : Tables} (held : Holds query t) where
   -- the sources and edges of one term more
@@ -55,7 +61,9 @@ module _ {query : Query} {t : Tables} (held : Holds query t) where
         counts = base-more (held .counts) (Term.freeBase (t .counts .bases)) refl room (t .counts .sources) (t .counts .edges) (omega (arith, held .counts)) (held .counts .few-edges);
         values = pushed (held .values) value room refl;
         truths = kept (held .truths);
-        reads = read-more (held .reads) (Term.freeBase (t .counts .bases)) room 255 (no-read (t .counts .bases));
+        reads =
+            read-more (held .reads) (Term.freeBase (t .counts .bases)) room noRead (λ b a small. no-read noRead (t .counts .bases) b a refl small)
+            (λ b. sym (and-false (eqb (t .counts .bases) b)));
         sources = source-column (Term.freeBase (t .counts .bases)) (kept (held .sources));
         edges = edge-column (Term.freeBase (t .counts .bases)) (kept (held .edges));
       }
@@ -64,7 +72,7 @@ module _ {query : Query} {t : Tables} (held : Holds query t) where
         counts = boolean-more (held .counts) (Term.freeBoolean (t .counts .booleans)) refl room (t .counts .sources) (t .counts .edges) (held .counts .few-sources) (omega (arith, held .counts));
         values = kept (held .values);
         truths = pushed (held .truths) truth room refl;
-        reads = no-read-more (held .reads) (Term.freeBoolean (t .counts .booleans)) (λ b a. refl);
+        reads = no-read-more (held .reads) (Term.freeBoolean (t .counts .booleans)) (λ b a. refl) (λ b. refl);
         sources = source-column (Term.freeBoolean (t .counts .booleans)) (kept (held .sources));
         edges = edge-column (Term.freeBoolean (t .counts .booleans)) (kept (held .edges));
       }
@@ -73,7 +81,7 @@ module _ {query : Query} {t : Tables} (held : Holds query t) where
         counts = array-more (held .counts) (Term.variable (t .counts .arrays)) refl room (t .counts .sources) (t .counts .edges) (omega (arith, held .counts)) (omega (arith, held .counts));
         values = kept (held .values);
         truths = kept (held .truths);
-        reads = no-read-more (held .reads) (Term.variable (t .counts .arrays)) (λ b a. refl);
+        reads = no-read-more (held .reads) (Term.variable (t .counts .arrays)) (λ b a. refl) (λ b. refl);
         sources = source-column (Term.variable (t .counts .arrays)) (kept (held .sources));
         edges = edge-column (Term.variable (t .counts .arrays)) (kept (held .edges));
       }
@@ -83,7 +91,7 @@ module _ {query : Query} {t : Tables} (held : Holds query t) where
         counts = array-more (held .counts) term refl (room .0) (t .counts .sources + 1) (t .counts .edges + 1) (omega (arith, held .counts)) (omega (arith, held .counts));
         values = kept (held .values);
         truths = kept (held .truths);
-        reads = no-read-more (held .reads) term (λ b a. refl);
+        reads = no-read-more (held .reads) term (λ b a. refl) (λ b. refl);
         sources =
             source-column term
             (pushed (held .sources) (sourceRow (t .counts .arrays) (p .index) (p .value)) (room .1)
@@ -99,7 +107,7 @@ module _ {query : Query} {t : Tables} (held : Holds query t) where
         counts = array-more (held .counts) term refl (room .0) (t .counts .sources) (t .counts .edges + 1) (omega (arith, held .counts)) (omega (arith, held .counts));
         values = kept (held .values);
         truths = kept (held .truths);
-        reads = no-read-more (held .reads) term (λ b a. refl);
+        reads = no-read-more (held .reads) term (λ b a. refl) (λ b. refl);
         sources = source-column term (kept (held .sources));
         edges =
             edge-column term
@@ -116,7 +124,8 @@ module _ {query : Query} {t : Tables} (held : Holds query t) where
         truths = kept (held .truths);
         reads =
             read-more (held .reads) term (room .0) (readRow (p .from) (p .index))
-            (λ b a small. rw (read-from (p .from) (p .index) from-low index-low, read-index (p .from) (p .index) from-low index-low));
+            (λ b a small. rw (read-from (p .from) (p .index) from-low index-low, read-index (p .from) (p .index) from-low index-low))
+            (λ b. rw (read-unmarked (p .from) (p .index) (omega (arith, held .counts, names)) index-low) (sym (and-false (eqb (t .counts .bases) b))));
         sources =
             source-column term
             (pushed (held .sources) (sourceRow (p .from) (p .index) (t .counts .bases)) (room .1)
@@ -129,12 +138,24 @@ module _ {query : Query} {t : Tables} (held : Holds query t) where
         counts = boolean-more (held .counts) term refl (room .0) (t .counts .sources) (t .counts .edges + 1) (held .counts .few-sources) (omega (arith, held .counts));
         values = kept (held .values);
         truths = pushed (held .truths) (p .truth) (room .0) refl;
-        reads = no-read-more (held .reads) term (λ b a. refl);
+        reads = no-read-more (held .reads) term (λ b a. refl) (λ b. refl);
         sources = source-column term (kept (held .sources));
         edges =
             edge-column term
             (pushed (held .edges) (edgeRow (p .left) (p .right) 0 (t .counts .booleans) 2) (room .1)
             (edge-back (p .left) (p .right) 0 (t .counts .booleans) 2 (omega (arith, held .counts, names)) (omega (arith, held .counts, names)) (omega arith) (omega (arith, held .counts, room))));
+      }
+  puts (Fixed value) names room =
+      let term = Term.fixed (t .counts .bases) value in
+      record {
+        counts = base-more (held .counts) term refl room (t .counts .sources) (t .counts .edges) (omega (arith, held .counts)) (held .counts .few-edges);
+        values = pushed (held .values) value room refl;
+        truths = kept (held .truths);
+        reads =
+            read-more (held .reads) term room fixedMark (λ b a small. no-read fixedMark (t .counts .bases) b a refl small)
+            (λ b. sym (and-true (eqb (t .counts .bases) b)));
+        sources = source-column term (kept (held .sources));
+        edges = edge-column term (kept (held .edges));
       }
 
   -- where the tables find no fault with it

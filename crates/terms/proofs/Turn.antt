@@ -4,11 +4,12 @@ use Prim.Native.Nat.{ℕ, _<_, _≤_}
 use native.Mathlib.Omega.{arith}
 use mathlib.Core.Path.{_≡_, refl, sym, _∙_, subst}
 use mathlib.Core.Logic.{_≢_}
+use mathlib.Core.Bool.{false}
 use mathlib.Core.List.{List, []}
 use lib.ListN.{length}
 use Rattle.paper.specs.Lists.{firstMet}
 use Rattle.paper.specs.Fields.{Series, base, boolean, array}
-use Rattle.paper.specs.Terms.{given, Query}
+use Rattle.paper.specs.Terms.{given, isFixed, Query}
 use Rattle.paper.specs.Load.{faults, extend, empty, load}
 use Rattle.paper.specs.Edges.{sources, edges}
 use Rattle.query.specs.Standing.{standing, kindOfField, numbersOf}
@@ -33,6 +34,10 @@ none-given base = refl
 none-given boolean = refl
 none-given array = refl
 
+none-fixed : (b : ℕ) → isFixed [] b ≡ false
+unfolding isFixed
+none-fixed b = refl
+
 -- tables of which no row is in use hold the empty query, whatever stands in them
 pub none-held : {values truths reads source-rows edge-rows : List ℕ} → Sized values truths reads source-rows edge-rows → Holds empty (tables values truths reads source-rows edge-rows noCounts)
 unfolding sources edges
@@ -41,7 +46,7 @@ none-held sized =
       counts = record { given-as = none-given; bases-most = omega arith; booleans-most = omega arith; arrays-most = omega arith; few-sources = omega arith; few-edges = omega arith };
       values = record { long = sized .values-long; same = refl };
       truths = record { long = sized .truths-long; same = refl };
-      reads = record { long = sized .reads-long; within = λ b a below small. absurd (omega arith); past = λ b a beyond small. refl };
+      reads = record { long = sized .reads-long; within = λ b a below small. absurd (omega arith); past = λ b a beyond small. refl; fixed = λ b below. absurd (omega arith); fixed-past = λ b beyond. none-fixed b };
       sources = record { long = sized .sources-long; same = refl };
       edges = record { long = sized .edges-long; same = refl };
     }

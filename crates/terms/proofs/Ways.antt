@@ -16,6 +16,7 @@ use Rattle.paper.specs.Fields.{Series, base, boolean}
 use Rattle.paper.specs.Terms.{Term, series, given, Query, Assignment, assigned}
 use Rattle.paper.specs.Load.{load, Loaded}
 use Rattle.paper.specs.Edges.{sourceOf, sources, Guard, Edge, edgeOf, edges, opens, openEdges}
+use Rattle.meaning.proofs.Lists.{keep-append}
 use Rattle.meaning.proofs.Built.{AreBytes}
 use Rattle.meaning.proofs.Accepted.{Below, ownNumber, Accepted, accepted, below, own-below}
 use Rattle.terms.specs.Tables.{Tables, sourceIn, edgesOf, edgesIn}
@@ -51,6 +52,7 @@ source-within c (Term.write own beneath index value) names inside = omega arith
 source-within c (Term.conditional own chooser ifTrue ifFalse) names inside = tt
 source-within c (Term.read own from index) names inside = omega arith
 source-within c (Term.equality own left right leftWitness rightWitness) names inside = tt
+source-within c (Term.fixed own value) names inside = tt
 
 edge-within : (c : Series → ℕ) (term : Term) → Below c term → ownNumber term < c (series term) → Each (EdgeWithin c) (edgeOf term)
 edge-within c (Term.freeBase own) names inside = tt
@@ -60,14 +62,7 @@ edge-within c (Term.write own beneath index value) names inside = omega arith
 edge-within c (Term.conditional own chooser ifTrue ifFalse) names inside = omega arith
 edge-within c (Term.read own from index) names inside = tt
 edge-within c (Term.equality own left right leftWitness rightWitness) names inside = omega arith
-
-pub keep-append : {A : Type 0} (test : A → Bool) (xs ys : List A) → keep test (xs ++ ys) ≡ keep test xs ++ keep test ys
-keep-append test [] ys = refl
-keep-append {A} test (x ∷ xs) ys = go (test x) (keep-append test xs ys)
-  where
-    go : (b : Bool) → keep test (xs ++ ys) ≡ keep test xs ++ keep test ys → cond b (x ∷ keep test (xs ++ ys)) (keep test (xs ++ ys)) ≡ cond b (x ∷ keep test xs) (keep test xs) ++ keep test ys
-    go true same = ap (λ (zs : List A). x ∷ zs) same
-    go false same = same
+edge-within c (Term.fixed own value) names inside = tt
 
 shut-or-not : (edge : Edge) (shut : Bool) → cond shut [] (edge ∷ []) ≡ cond (not shut) (edge ∷ []) []
 shut-or-not edge true = refl
@@ -198,6 +193,7 @@ module _ {query : Query} {t : Tables} (held : Holds query t) (whole : Accepted 3
         within-edges = edge-rows;
         value = value-at (held .values);
         truth = truth-at (held .truths);
+        fixed = held .reads .fixed;
       }
 
 -- the tables of bytes that are accepted

@@ -11,7 +11,7 @@ use Rattle.paper.specs.Load.{eachPart, asTruth, isFull, namesUngiven}
 use Rattle.query.specs.Standing.{kindOfField, numbersOf}
 use Rattle.query.specs.declared.EqualityParts.{EqualityParts}
 use Rattle.query.specs.declared.Field.{Field}
-use Rattle.query.specs.declared.Field.the-variants.{FreeBase, FreeBoolean, Variable, Write, Conditional, Read, Equality}
+use Rattle.query.specs.declared.Field.the-variants.{FreeBase, FreeBoolean, Variable, Write, Conditional, Read, Equality, Fixed}
 use Rattle.terms.specs.declared.Counts.{Counts}
 
 abbrev pub countIn : Counts → Series → ℕ
@@ -37,6 +37,7 @@ ofEqualityField test (Write p) = false
 ofEqualityField test (Conditional p) = false
 ofEqualityField test (Read p) = false
 ofEqualityField test (Equality p) = test p
+ofEqualityField test (Fixed value) = false
 
 abbrev pub truthsOf : Field → List ℕ
 truthsOf field = eachPart asTruth (parts (kindOfField field)) (numbersOf field)

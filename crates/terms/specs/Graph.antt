@@ -9,10 +9,10 @@ use lib.ListN.{getD, take}
 use Rattle.paper.specs.Sizes.{maxSources, maxEdges}
 use Rattle.paper.specs.Lists.{concatMap}
 use Rattle.paper.specs.Fields.{Series, base, boolean, array}
-use Rattle.paper.specs.Terms.{Query, assigned}
+use Rattle.paper.specs.Terms.{isFixed, Query, assigned}
 use Rattle.paper.specs.Edges.{Source, indexNumber, sources, Guard, Edge, openEdges}
 use Rattle.terms.specs.declared.graph.Way.{Way}
-use Rattle.terms.specs.Tables.{Tables, sourceIn, edgesIn}
+use Rattle.terms.specs.Tables.{Tables, fixedIn, sourceIn, edgesIn}
 use Rattle.terms.specs.Faults.{countIn}
 
 -- is the row a write's whose index has value x?
@@ -72,3 +72,4 @@ pub record Graphed (query : Query) (t : Tables) : Type 0 where
   pub within-edges : Each (λ row. Each (EdgeWithin (countIn (t .counts))) (edgesIn row)) (take (t .counts .edges) (t .edges))
   pub value : (b : ℕ) → b < t .counts .bases → getD (t .values) b 0 ≡ assigned (query .guess) .value b
   pub truth : (m : ℕ) → m < t .counts .booleans → eqb 1 (getD (t .truths) m 0) ≡ assigned (query .guess) .truth m
+  pub fixed : (b : ℕ) → b < t .counts .bases → isFixed (query .terms) b ≡ fixedIn (t .reads) b

@@ -2,7 +2,7 @@
 -- Assumes nothing.
 use Prim.Native.Nat.{ℕ, _+_, _/_, _%_, _<_, _≤_}
 use mathlib.Core.Path.{_≡_}
-use mathlib.Core.Bool.{Bool, cond}
+use mathlib.Core.Bool.{Bool, false, cond}
 use mathlib.Core.List.{List, [], _∷_}
 use mathlib.Core.Option.{none, some}
 use lib.Dec.{eqb}
@@ -10,11 +10,11 @@ use lib.ListN.{length, getD, take}
 use Rattle.paper.specs.Sizes.{maxArrays, maxBases, maxBooleans, maxSources, maxEdges}
 use Rattle.paper.specs.Lists.{concatMap}
 use Rattle.paper.specs.Fields.{Series}
-use Rattle.paper.specs.Terms.{Term, given, Query}
+use Rattle.paper.specs.Terms.{Term, given, isFixed, Query}
 use Rattle.paper.specs.Load.{witnessIndex}
 use Rattle.paper.specs.Edges.{Source, sources, edges}
 use Rattle.terms.specs.declared.Counts.{Counts}
-use Rattle.terms.specs.Tables.{Tables, sourceIn, edgesIn}
+use Rattle.terms.specs.Tables.{Tables, fixedIn, sourceIn, edgesIn}
 use Rattle.terms.specs.Faults.{countIn}
 
 -- the first n cells of a column of so many say this list, each cell a part of it
@@ -31,11 +31,13 @@ pub record Counted (c : Counts) (terms : List Term) : Type 0 where
   pub few-sources : c .sources ≤ c .bases + c .arrays
   pub few-edges : c .edges ≤ c .booleans + c .arrays
 
--- the read that gives a base term is found by its number
+-- the read that gives a base term is found by its number, and so is whether it is a fixed number
 pub record ReadsFound (bases : ℕ) (reads : List ℕ) (terms : List Term) : Type 0 where
   pub long : length reads ≡ maxBases
   pub within : (b a : ℕ) → b < bases → a < 255 → witnessIndex terms b a ≡ cond (eqb (getD reads b 0 % 256) a) (some (getD reads b 0 / 256)) none
   pub past : (b a : ℕ) → bases ≤ b → a < 255 → witnessIndex terms b a ≡ none
+  pub fixed : (b : ℕ) → b < bases → isFixed terms b ≡ fixedIn reads b
+  pub fixed-past : (b : ℕ) → bases ≤ b → isFixed terms b ≡ false
 
 abbrev pub asIs : ℕ → List ℕ
 asIs x = x ∷ []

@@ -2,12 +2,14 @@
 -- Assumes nothing.
 use Prim.Native.Nat.{ℕ, zero, suc, _+_, _*_, _/_, _%_, _<_}
 use mathlib.Core.Path.{_≡_}
+use mathlib.Core.Bool.{Bool}
 use mathlib.Core.List.{List, [], _∷_}
-use lib.ListN.{length, set}
+use lib.Dec.{eqb}
+use lib.ListN.{length, getD, set}
 use Rattle.paper.specs.Sizes.{maxArrays, maxBases, maxBooleans, maxSources, maxEdges}
 use Rattle.paper.specs.Edges.{at, Source, Guard, Edge}
 use Rattle.query.specs.declared.Field.{Field}
-use Rattle.query.specs.declared.Field.the-variants.{FreeBase, FreeBoolean, Variable, Write, Conditional, Read, Equality}
+use Rattle.query.specs.declared.Field.the-variants.{FreeBase, FreeBoolean, Variable, Write, Conditional, Read, Equality, Fixed}
 use Rattle.terms.specs.declared.Counts.{Counts}
 
 pub record Tables : Type 0 where
@@ -39,6 +41,17 @@ sourceRow origin index value = origin % 256 + 256 * (index % 256) + 65536 * (val
 unfoldable pub edgeRow : (left right other number guard : ℕ) → ℕ
 edgeRow left right other number guard = left % 64 + 64 * (right % 64) + 4096 * (other % 64) + 262144 * (number % 256) + 67108864 * guard
 
+-- what stands for the read of a base term that is none, and of a fixed number: no array has number 255
+abbrev pub noRead : ℕ
+noRead = 255
+
+abbrev pub fixedMark : ℕ
+fixedMark = 511
+
+-- is a base term marked as a fixed number?
+abbrev pub fixedIn : (reads : List ℕ) (b : ℕ) → Bool
+fixedIn reads b = eqb (getD reads b 0) fixedMark
+
 -- and what a row says: a source; or the edges of a write, a conditional or an equality
 unfoldable pub sourceIn : ℕ → Source
 sourceIn row = record { origin = row % 256; place = at (row / 256 % 256); value = row / 65536 % 256 }
@@ -54,11 +67,14 @@ edgesOf left right other number (suc (suc guard)) = record { left = left; right 
 unfoldable pub edgesIn : ℕ → List Edge
 edgesIn row = edgesOf (row % 64) (row / 64 % 64) (row / 4096 % 64) (row / 262144 % 256) (row / 67108864)
 
+-- one base term more
+abbrev pub moreBases : Counts → Counts
+moreBases c = record { bases = c .bases + 1; booleans = c .booleans; arrays = c .arrays; sources = c .sources; edges = c .edges }
+
 -- what an accepted field puts into the tables
 abbrev pub putIn : Field → Tables → Tables
 putIn (FreeBase value) t =
-    tables (set (t .values) (t .counts .bases) value) (t .truths) (set (t .reads) (t .counts .bases) 255) (t .sources) (t .edges)
-    (record { bases = t .counts .bases + 1; booleans = t .counts .booleans; arrays = t .counts .arrays; sources = t .counts .sources; edges = t .counts .edges })
+    tables (set (t .values) (t .counts .bases) value) (t .truths) (set (t .reads) (t .counts .bases) noRead) (t .sources) (t .edges) (moreBases (t .counts))
 putIn (FreeBoolean truth) t =
     tables (t .values) (set (t .truths) (t .counts .booleans) truth) (t .reads) (t .sources) (t .edges)
     (record { bases = t .counts .bases; booleans = t .counts .booleans + 1; arrays = t .counts .arrays; sources = t .counts .sources; edges = t .counts .edges })
@@ -83,6 +99,8 @@ putIn (Equality p) t =
     tables (t .values) (set (t .truths) (t .counts .booleans) (p .truth)) (t .reads) (t .sources)
     (set (t .edges) (t .counts .edges) (edgeRow (p .left) (p .right) 0 (t .counts .booleans) 2))
     (record { bases = t .counts .bases; booleans = t .counts .booleans + 1; arrays = t .counts .arrays; sources = t .counts .sources; edges = t .counts .edges + 1 })
+putIn (Fixed value) t =
+    tables (set (t .values) (t .counts .bases) value) (t .truths) (set (t .reads) (t .counts .bases) fixedMark) (t .sources) (t .edges) (moreBases (t .counts))
 
 -- there is room for it
 abbrev pub Room : Field → Counts → Type 0
@@ -93,3 +111,4 @@ Room (Write p) c = (c .arrays < maxArrays) × (c .sources < maxSources) × (c .e
 Room (Conditional p) c = (c .arrays < maxArrays) × (c .edges < maxEdges)
 Room (Read p) c = (c .bases < maxBases) × (c .sources < maxSources)
 Room (Equality p) c = (c .booleans < maxBooleans) × (c .edges < maxEdges)
+Room (Fixed value) c = c .bases < maxBases

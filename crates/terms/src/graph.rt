@@ -1,9 +1,11 @@
-// The rows of sources and edges, taken apart; an edge's guard is read through the guess.
+// The rows of reads, sources and edges, taken apart; an edge's guard is read through the guess.
 ghost use mathlib.Core.Path.{_≡_};
 ghost use Prim.Native.Nat.{_<_, _/_, _%_};
 ghost use lib.ListN.{getD};
-ghost use Rattle.terms.specs.Tables.{sourceRow, edgeRow};
+ghost use Rattle.paper.specs.Sizes.{maxBases};
+ghost use Rattle.terms.specs.Tables.{fixedIn, sourceRow, edgeRow};
 ghost use Rattle.terms.specs.Graph.{shutTo, openIn, mayOpen, wayEdges};
+use crate::FIXED_MARK;
 use paper::DIFFER;
 use paper::IS_FALSE;
 use paper::IS_TRUE;
@@ -64,6 +66,14 @@ pub fn value_of(row: u32) -> usize
     ensures { λ r. ⌜ r ≡ row / 65536 % 256 ⌝ }
 {
     (row / 65536 % 256) as usize
+}
+
+// Is a base term a fixed number?
+pub fn is_fixed(reads: &[u16; MAX_BASES], base: usize) -> bool
+    requires { ⌜ base < maxBases ⌝ }
+    ensures { λ r. ⌜ r ≡ fixedIn (now (reads .entry)) base ⌝ }
+{
+    reads[base] == FIXED_MARK
 }
 
 // The index value of a source's row.

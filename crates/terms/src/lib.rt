@@ -1,7 +1,10 @@
 // The terms and the guess of a query, loaded from its bytes into tables that are lent: values, truths, reads, sources and edges, filled in the
 // one pass over the fields.
 ghost use mathlib.Core.Path.{_≡_};
-ghost use Rattle.terms.specs.Tables.{tables, readRow, putIn, Room, Sized};
+ghost use Prim.Native.Nat.{_<_};
+ghost use lib.ListN.{set};
+ghost use Rattle.paper.specs.Sizes.{maxBases};
+ghost use Rattle.terms.specs.Tables.{tables, readRow, moreBases, putIn, Room, Sized};
 ghost use Rattle.terms.specs.Loads.{Loads};
 
 pub mod graph;
@@ -22,8 +25,11 @@ use query::Decoded;
 use query::Field;
 use refuse::fault;
 
-// Stands for the array read by a base term that is no read.
+// Stands for the read that gives a base term that is none: its array would have number 255. A fixed number has the like, with another
+// index, so that it costs no table to know which base terms are fixed.
 const NO_READ: u16 = 255;
+
+const FIXED_MARK: u16 = 511;
 
 // How many terms of each series are given, and how many rows the tables of sources and edges have.
 pub struct Counts {
@@ -49,6 +55,35 @@ fn read_row(from: usize, index: usize) -> u16
     low + 256 * high
 }
 
+// Stores a base term that is no read: its value, and what stands for its read.
+fn put_base(
+    value: u64,
+    mark: u16,
+    counts: Counts,
+    values: &mut [u64; MAX_BASES],
+    reads: &mut [u16; MAX_BASES],
+) -> Counts
+    requires { ⌜ counts .bases < maxBases ⌝ }
+    ensures { λ r. ⌜ (now (values .exit) ≡ set (now (values .entry)) (counts .bases) value) × (now (reads .exit) ≡ set (now (reads .entry)) (counts .bases) mark) × (r ≡ moreBases counts) ⌝ }
+{
+    let bases = counts.bases;
+    let booleans = counts.booleans;
+    let arrays = counts.arrays;
+    let sources = counts.sources;
+    let edges = counts.edges;
+    let base = bases as usize;
+    values[base] = value;
+    reads[base] = mark;
+    let more_bases = bases + 1;
+    Counts {
+        bases: more_bases,
+        booleans,
+        arrays,
+        sources,
+        edges,
+    }
+}
+
 // Stores what an accepted field gives.
 fn put(
     field: Field,
@@ -69,17 +104,7 @@ fn put(
     let edged = counts.edges;
     match field {
         Field::FreeBase(value) => {
-            let base = bases as usize;
-            values[base] = value;
-            reads[base] = NO_READ;
-            let more_bases = bases + 1;
-            return Counts {
-                bases: more_bases,
-                booleans,
-                arrays,
-                sources: sourced,
-                edges: edged,
-            };
+            return put_base(value, NO_READ, counts, values, reads);
         }
         Field::FreeBoolean(truth) => {
             let boolean = booleans as usize;
@@ -174,6 +199,9 @@ fn put(
                 sources: sourced,
                 edges: more_edges,
             };
+        }
+        Field::Fixed(value) => {
+            return put_base(value, FIXED_MARK, counts, values, reads);
         }
     }
 }

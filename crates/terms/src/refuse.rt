@@ -198,5 +198,6 @@ pub fn fault<'a>(
             false,
         ),
         Field::Equality(p) => equality_fault(reads, values, p, bases, booleans, arrays),
+        Field::Fixed(_) => choose(reached(MAX_BASES, bases), TOO_MANY, 0),
     }
 }

@@ -6,6 +6,7 @@ use native.Mathlib.Omega.{arith}
 use mathlib.Core.List.{[], _∷_}
 use denote.Ref.{now}
 use Rattle.query.proofs.Bytes.{number-one}
+use Rattle.query.proofs.Heads.{last-tag}
 use lib.ListN.{length}
 use Rattle.query.proofs.field_at.Statement.{statement}
 use Rattle.query.proofs.field_at.Tie as tie
@@ -26,9 +27,12 @@ read-at-requires : tie.Need-read-at-requires
 read-at-requires c κs = omega (arith, rw (c .match .keys6) at (c .before .before .pre .3))
 
 equality-at-requires : tie.Need-equality-at-requires
-equality-at-requires c κs =
-    let seven : c .before .before .args .tag ≡ 7 = omega arith in
-    omega (arith, rw seven at (c .before .before .pre .3))
+equality-at-requires c κs = omega (arith, rw (c .match .keys7) at (c .before .before .pre .3))
+
+number-at-requires-2 : tie.Need-number-at-requires-2
+number-at-requires-2 c κs =
+    let eight = last-tag (c .before .before .args .tag) (c .before .before .pre .0) (c .before .before .pre .1) (c .match .rest) in
+    omega (arith, rw eight at (c .before .before .pre .3))
 
 returns : tie.Need-returns
 returns c = record { kind = rw (c .before .match .keys1); numbers = ap (λ (n : ℕ). n ∷ []) (c .number-at .ensures .0) }
@@ -56,9 +60,13 @@ returns-6 : tie.Need-returns-6
 returns-6 c = rw (c .before .match .keys6) (c .read-at .ensures)
 
 returns-7 : tie.Need-returns-7
-returns-7 c =
-    let seven : c .before .before .before .args .tag ≡ 7 = omega arith in
-    rw seven (c .equality-at .ensures (c .before .before .before .args .width))
+returns-7 c = rw (c .before .match .keys7) (c .equality-at .ensures (c .before .before .before .args .width))
+
+returns-8 : tie.Need-returns-8
+returns-8 c =
+    let start = c .before .before .before in
+    let eight = last-tag (start .args .tag) (start .pre .0) (start .pre .1) (c .before .match .rest) in
+    record { kind = rw eight; numbers = ap (λ (n : ℕ). n ∷ []) (c .number-at2 .ensures .0) }
 
 pub field-at-spec : {M : Type 1} → statement M
 field-at-spec =
@@ -70,10 +78,12 @@ field-at-spec =
     conditional-at-requires
     read-at-requires
     equality-at-requires
+    number-at-requires-2
     returns
     returns-2
     returns-3
     returns-4
     returns-5
     returns-6
-    returns-7)
+    returns-7
+    returns-8)

@@ -1,4 +1,4 @@
--- `query::unknown` meets its contract: below 1 and above 7 the table has no kind, and from 1 to 7 it has one.
+-- `query::unknown` meets its contract: below 1 and above 8 the table has no kind, and from 1 to 8 it has one.
 -- Assumes nothing.
 use mathlib.Core.Path.{sym}
 use Rattle.query.proofs.Heads.{unknown-none, unknown-test}

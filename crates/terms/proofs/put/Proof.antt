@@ -31,29 +31,19 @@ room-read f = subst (λ (field : Field). Room field (f .before .before .args .co
 room-equality : (f : tie.After-field6) → (f .before .before .args .counts .booleans < 64) × (f .before .before .args .counts .edges < 112)
 room-equality f = subst (λ (field : Field). Room field (f .before .before .args .counts)) (f .field6 .given .1) (f .before .before .pre)
 
+room-fixed : (f : tie.After-field7) → f .before .before .args .counts .bases < 256
+room-fixed f = subst (λ (field : Field). Room field (f .before .before .args .counts)) (f .field7 .given .1) (f .before .before .pre)
+
 enum-known-field : tie.Need-enum-known-field
 enum-known-field c = search needs
 
-cast-base : tie.Need-cast-base
-cast-base c = search needs
-
-mul-values : tie.Need-mul-values
-mul-values c = omega (arith, room-base (c .before))
-
-element-write-values : tie.Need-element-write-values
-element-write-values c = omega (arith, room-base (c .before))
-
-mul-reads : tie.Need-mul-reads
-mul-reads c = omega (arith, room-base (c .before))
-
-element-write-reads : tie.Need-element-write-reads
-element-write-reads c = omega (arith, room-base (c .before))
-
-add-more-bases : tie.Need-add-more-bases
-add-more-bases c = omega (arith, room-base (c .before))
+put-base-requires : tie.Need-put-base-requires
+put-base-requires c κs = room-base (c .before .before .before)
 
 returns : tie.Need-returns
-returns c = rw (c .before .field .given .1)
+returns c =
+    let stored = c .put-base .ensures in
+    rw (c .before .before .before .before .field .given .1, stored .0, stored .1, stored .2)
 
 enum-known-field-2 : tie.Need-enum-known-field-2
 enum-known-field-2 c = search needs
@@ -175,26 +165,26 @@ cast-from c = search needs
 cast-index-2 : tie.Need-cast-index-2
 cast-index-2 c = search needs
 
-cast-base-2 : tie.Need-cast-base-2
-cast-base-2 c = search needs
+cast-base : tie.Need-cast-base
+cast-base c = search needs
 
 cast-source-2 : tie.Need-cast-source-2
 cast-source-2 c = search needs
 
-mul-values-2 : tie.Need-mul-values-2
-mul-values-2 c = omega (arith, room-read (c .before .before .before))
+mul-values : tie.Need-mul-values
+mul-values c = omega (arith, room-read (c .before .before .before))
 
-element-write-values-2 : tie.Need-element-write-values-2
-element-write-values-2 c = omega (arith, room-read (c .before .before .before))
+element-write-values : tie.Need-element-write-values
+element-write-values c = omega (arith, room-read (c .before .before .before))
 
 read-row-requires : tie.Need-read-row-requires
 read-row-requires c κs = search needs
 
-mul-reads-2 : tie.Need-mul-reads-2
-mul-reads-2 c = omega (arith, room-read (c .before .before .before .before))
+mul-reads : tie.Need-mul-reads
+mul-reads c = omega (arith, room-read (c .before .before .before .before))
 
-element-write-reads-2 : tie.Need-element-write-reads-2
-element-write-reads-2 c = omega (arith, room-read (c .before .before .before .before))
+element-write-reads : tie.Need-element-write-reads
+element-write-reads c = omega (arith, room-read (c .before .before .before .before))
 
 source-row-requires-2 : tie.Need-source-row-requires-2
 source-row-requires-2 c κs = search needs
@@ -205,8 +195,8 @@ mul-sources-2 c = omega (arith, room-read (c .before .before .before .before .be
 element-write-sources-2 : tie.Need-element-write-sources-2
 element-write-sources-2 c = omega (arith, room-read (c .before .before .before .before .before))
 
-add-more-bases-2 : tie.Need-add-more-bases-2
-add-more-bases-2 c = omega (arith, room-read (c .before .before .before .before .before))
+add-more-bases : tie.Need-add-more-bases
+add-more-bases c = omega (arith, room-read (c .before .before .before .before .before))
 
 add-more-sources-2 : tie.Need-add-more-sources-2
 add-more-sources-2 c = omega (arith, room-read (c .before .before .before .before .before))
@@ -250,17 +240,23 @@ add-more-edges-3 c = omega (arith, room-equality (c .before .before .before .bef
 returns-7 : tie.Need-returns-7
 returns-7 c = rw (c .before .before .before .before .field6 .given .1, c .edge-row3 .ensures)
 
+enum-known-field-7 : tie.Need-enum-known-field-7
+enum-known-field-7 c = search needs
+
+put-base-requires-2 : tie.Need-put-base-requires-2
+put-base-requires-2 c κs = room-fixed (c .before .before .before)
+
+returns-8 : tie.Need-returns-8
+returns-8 c =
+    let stored = c .put-base2 .ensures in
+    rw (c .before .before .before .before .field7 .given .1, stored .0, stored .1, stored .2)
+
 pub put-spec : {M : Type 1} → statement M
 put-spec =
     tie.close
     (tie.spec
     enum-known-field
-    cast-base
-    mul-values
-    element-write-values
-    mul-reads
-    element-write-reads
-    add-more-bases
+    put-base-requires
     returns
     enum-known-field-2
     cast-boolean
@@ -302,17 +298,17 @@ put-spec =
     enum-known-field-5
     cast-from
     cast-index-2
-    cast-base-2
+    cast-base
     cast-source-2
-    mul-values-2
-    element-write-values-2
+    mul-values
+    element-write-values
     read-row-requires
-    mul-reads-2
-    element-write-reads-2
+    mul-reads
+    element-write-reads
     source-row-requires-2
     mul-sources-2
     element-write-sources-2
-    add-more-bases-2
+    add-more-bases
     add-more-sources-2
     returns-6
     enum-known-field-6
@@ -326,4 +322,7 @@ put-spec =
     element-write-edges-3
     add-more-booleans-2
     add-more-edges-3
-    returns-7)
+    returns-7
+    enum-known-field-7
+    put-base-requires-2
+    returns-8)

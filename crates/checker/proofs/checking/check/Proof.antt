@@ -14,16 +14,16 @@ returns c = check-refused _ _ _ _ (refused (c .before .judge .ensures) (c .if1 .
 
 conclude-requires : tie.Need-conclude-requires
 conclude-requires c κs =
-    let e = c .before .before .before .before .before in
-    (_, (_, judged (e .before .judge .ensures) (e .if1 .left)))
+    let e = c .before .before .before .before .before .before in
+    (_, judged (e .before .judge .ensures) (e .if1 .left))
 
 same-length : tie.Need-same-length
 same-length c = search needs
 
 returns-2 : tie.Need-returns-2
 returns-2 c =
-    let e = c .before .before .before .before .before .before .before .before in
-    c .before .before .conclude .ensures _ (_, judged (e .before .judge .ensures) (e .if1 .left))
+    let e = c .before .before .before .before .before .before .before .before .before in
+    c .before .before .conclude .ensures _ (judged (e .before .judge .ensures) (e .if1 .left))
 
 pub check-spec : {M : Type 1} → statement M
 check-spec = tie.close (tie.spec judge-requires returns conclude-requires same-length returns-2)

@@ -18,7 +18,7 @@ enum-known-found c = search needs
 pair-literals-requires : tie.Need-pair-literals-requires
 pair-literals-requires c κs =
     let f = c .before .before in
-    paired (f .before .before .before .pre .1 .1) _ (ap foundOf (f .found .given .1)) _ refl
+    paired (f .before .before .before .pre .1) _ (ap foundOf (f .found .given .1)) _ refl
 
 lemma-length-requires : tie.Need-lemma-length-requires
 lemma-length-requires c κs = c .before .pair-literals .ensures .proper
@@ -26,7 +26,7 @@ lemma-length-requires c κs = c .before .pair-literals .ensures .proper
 returns : tie.Need-returns
 returns c = λ bytes known.
     let p = c .before .before .before in
-    checks-short (known .1) _ (ap foundOf (p .before .before .before .found .given .1)) (p .pair-literals .ensures) _ (omega (arith, c .if1 .taken, c .before .lemma-length .ensures))
+    checks-short known _ (ap foundOf (p .before .before .before .found .given .1)) (p .pair-literals .ensures) _ (omega (arith, c .if1 .taken, c .before .lemma-length .ensures))
 
 put-lemma-requires : tie.Need-put-lemma-requires
 put-lemma-requires c κs =
@@ -34,7 +34,7 @@ put-lemma-requires c κs =
     (e .before .before .before .pair-literals .ensures .proper, omega (arith, e .if1 .left, e .before .lemma-length .ensures))
 
 returns-2 : tie.Need-returns-2
-returns-2 c = λ bytes known. checks-quiet (known .1) (ap foundOf (c .enum-told .given .1)) _
+returns-2 c = λ bytes known. checks-quiet known (ap foundOf (c .enum-told .given .1)) _
 
 same-length : tie.Need-same-length
 same-length c = search needs
@@ -44,7 +44,7 @@ returns-3 c = λ bytes known.
     let w = c .before .before in
     let e = w .before .before .before in
     let p = e .before .before .before in
-    checks-conflict (known .1) _ (ap foundOf (p .before .before .before .found .given .1)) (p .pair-literals .ensures) _ _ _ (omega (arith, e .if1 .left, e .before .lemma-length .ensures)) (w .put-lemma .ensures .0) (w .put-lemma .ensures .1)
+    checks-conflict known _ (ap foundOf (p .before .before .before .found .given .1)) (p .pair-literals .ensures) _ _ _ (omega (arith, e .if1 .left, e .before .lemma-length .ensures)) (w .put-lemma .ensures .0) (w .put-lemma .ensures .1)
 
 pub conclude-spec : {M : Type 1} → statement M
 conclude-spec =

@@ -14,16 +14,16 @@ returns c = write-refused _ _ _ _ (c .if1 .taken) (refused (c .before .judge .en
 
 write-requires : tie.Need-write-requires
 write-requires c κs =
-    let e = c .before .before .before .before .before in
-    (_, (_, judged (e .before .judge .ensures) (e .if1 .left)))
+    let e = c .before .before .before .before .before .before in
+    (_, judged (e .before .judge .ensures) (e .if1 .left))
 
 same-length : tie.Need-same-length
 same-length c = search needs
 
 returns-2 : tie.Need-returns-2
 returns-2 c =
-    let e = c .before .before .before .before .before .before .before in
-    c .before .write .ensures _ (_, judged (e .before .judge .ensures) (e .if1 .left))
+    let e = c .before .before .before .before .before .before .before .before in
+    c .before .write .ensures _ (judged (e .before .judge .ensures) (e .if1 .left))
 
 pub clauses-spec : {M : Type 1} → statement M
 clauses-spec = tie.close (tie.spec judge-requires returns write-requires same-length returns-2)

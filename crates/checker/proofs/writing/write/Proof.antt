@@ -20,7 +20,7 @@ enum-known-found c = search needs
 pair-literals-requires : tie.Need-pair-literals-requires
 pair-literals-requires c κs =
     let f = c .before .before in
-    paired (f .before .before .pre .1 .1) _ (ap foundOf (f .found .given .1)) _ refl
+    paired (f .before .before .pre .1) _ (ap foundOf (f .found .given .1)) _ refl
 
 -- the function's entry, seen from behind the literals
 abbrev start : tie.After-pair-literals → tie.Start
@@ -34,7 +34,7 @@ returns c = λ bytes known.
     let n = c .before .before in
     let p = n .before .before in
     let counts = start p .args .counts in
-    writes-short (known .1) _ (ap foundOf (p .before .before .before .found .given .1)) (p .pair-literals .ensures) _ (omega (arith, c .if1 .taken, n .counts .ensures .1 .1 (counts .bases) (counts .booleans)))
+    writes-short known _ (ap foundOf (p .before .before .before .found .given .1)) (p .pair-literals .ensures) _ (omega (arith, c .if1 .taken, n .counts .ensures .1 .1 (counts .bases) (counts .booleans)))
 
 cast-bases : tie.Need-cast-bases
 cast-bases c = search needs
@@ -48,7 +48,7 @@ put-clauses-requires c κs =
     let n = e .before .before in
     let p = n .before .before in
     let counts = start p .args .counts in
-    let held = start p .pre .1 .1 .holds .counts in (
+    let held = start p .pre .1 .holds .counts in (
       p .pair-literals .ensures .proper .most,
       held .bases-most,
       held .booleans-most,
@@ -57,22 +57,22 @@ put-clauses-requires c κs =
     )
 
 mul-variables : tie.Need-mul-variables
-mul-variables c = omega (arith, c .before .before .before .before .before .before .before .before .before .before .before .before .before .before .before .pre .1 .1 .holds .counts .bases-most)
+mul-variables c = omega (arith, c .before .before .before .before .before .before .before .before .before .before .before .before .before .before .before .pre .1 .holds .counts .bases-most)
 
 add-variables : tie.Need-add-variables
 add-variables c =
-    let held = c .before .before .before .before .before .before .before .before .before .before .before .before .before .before .before .pre .1 .1 .holds .counts in
+    let held = c .before .before .before .before .before .before .before .before .before .before .before .before .before .before .before .pre .1 .holds .counts in
     omega (arith, held .bases-most, held .booleans-most)
 
 add-variables-2 : tie.Need-add-variables-2
 add-variables-2 c =
     let n = c .before .before .before .before .before .before .before .before .before in
     let p = n .before .before in
-    let held = start p .pre .1 .1 .holds .counts in
+    let held = start p .pre .1 .holds .counts in
     omega (arith, held .bases-most, held .booleans-most, n .counts .ensures .1 .0, fresh-small (p .pair-literals .ensures .proper))
 
 returns-2 : tie.Need-returns-2
-returns-2 c = λ bytes known. writes-quiet (known .1) (ap foundOf (c .enum-told .given .1)) _
+returns-2 c = λ bytes known. writes-quiet known (ap foundOf (c .enum-told .given .1)) _
 
 same-length : tie.Need-same-length
 same-length c = search needs
@@ -85,7 +85,7 @@ returns-3 c = λ bytes known.
     let p = n .before .before in
     let counts = start p .args .counts in
     let counted = n .counts .ensures in
-    writes-clauses (known .1) _ (ap foundOf (p .before .before .before .found .given .1)) (p .pair-literals .ensures) _ _ _ _ _
+    writes-clauses known _ (ap foundOf (p .before .before .before .found .given .1)) (p .pair-literals .ensures) _ _ _ _ _
     (omega (arith, e .if1 .left, counted .1 .1 (counts .bases) (counts .booleans)))
     (ap (λ (fresh : ℕ). 32 * counts .bases + counts .booleans + fresh) (counted .1 .0)) (counted .0 (counts .bases) (counts .booleans)) (w .put-clauses .ensures .1) (w .put-clauses .ensures .0)
 

@@ -1,9 +1,11 @@
 -- `lemma::between::literals_between` meets its contract: what its calls take off the two rows is what the rows say, and the path over the rows of
--- edges is the path over the edges that they open. Assumes nothing.
+-- edges is the path over the edges that they open; of the literals along it those are left that stay. Assumes nothing.
 use native.Mathlib.Omega.{arith}
 use mathlib.Core.Path.{refl, ap, _∙_}
 use borrow.Author.Needs.{needs}
+use Rattle.paper.specs.Lists.{keep}
 use Rattle.lemma.specs.Literals.{literalsFor}
+use Rattle.lemma.specs.Fixed.{staysBy}
 use Rattle.lemma.specs.Between.{pathOver}
 use Rattle.lemma.proofs.Opened.{path-same}
 use Rattle.lemma.proofs.between.literals_between.Statement.{statement}
@@ -32,10 +34,14 @@ literals-of-requires c κs =
     let pre = c .before .before .before .before .before .before .before .pre in
     (record { edges = pre .lent .few; short = omega (arith, path .short, pre .lent .arrays); ways = path .ways }, pre .room)
 
+leave-out-requires : tie.Need-leave-out-requires
+leave-out-requires c κs = let whole = c .before .literals-of .ensures in (whole .proper, whole .roomy)
+
 returns : tie.Need-returns
 returns c =
-    let path = c .before .before .before .path-between in
-    let origins = c .before .before .before .before .before in
+    let whole = c .before .before in
+    let path = whole .before .before .before .path-between in
+    let origins = whole .before .before .before .before .before in
     let goal = origins .origin-of2 in
     let from = origins .before .origin-of in
     let x = origins .before .before .index-value in
@@ -43,12 +49,14 @@ returns c =
     let args = start .args in
     record {
       same =
-          c .literals-of .ensures .same
+          c .leave-out .ensures .same
+          ∙ ap (keep (staysBy (args .reads .now)))
+          (whole .literals-of .ensures .same
           ∙ ap (literalsFor (args .one) (args .other))
           (path .ensures .walked
           ∙ path-same (args .values .now) (args .truths .now) (args .edges .now) (args .ways) (args .arrays) (start .pre .lent) (x .result) (from .result) (goal .result)
-          ∙ (λ i. pathOver (args .values .now) (args .truths .now) (args .edges .now) (args .ways) (args .arrays) (x .ensures i) (from .ensures i) (goal .ensures i)));
-      proper = c .literals-of .ensures .proper;
+          ∙ (λ i. pathOver (args .values .now) (args .truths .now) (args .edges .now) (args .ways) (args .arrays) (x .ensures i) (from .ensures i) (goal .ensures i))));
+      proper = c .leave-out .ensures .proper;
     }
 
 pub literals-between-spec : {M : Type 1} → statement M
@@ -60,4 +68,5 @@ literals-between-spec =
     origin-of-requires-2
     path-between-requires
     literals-of-requires
+    leave-out-requires
     returns)

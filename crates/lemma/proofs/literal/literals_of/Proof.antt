@@ -169,7 +169,7 @@ returns c =
     let says = packed 0x25 v u (two-numbers 0x25 u (omega arith) (omega arith) refl) (omega arith) (omega arith) (c .literal-row .result) row-is in
     let ended = writing-end (lent-to s) (args .x) (args .path .now) (args .steps) (index s) (later-index s) (s .pre .0) literals v u (c .literal-row .result) says
     (subst (λ (n : ℕ). Writing (lent-to s) (args .x) (args .path .now) (args .steps) (index s) (later-index s) n literals) here (l .loop .inv .1)) in
-    record { same = ended .0; proper = ended .1 .proper }
+    record { same = ended .0; proper = ended .1 .proper; roomy = ended .1 .roomy }
 
 pub literals-of-spec : {M : Type 1} → statement M
 literals-of-spec =

@@ -91,6 +91,15 @@ enum-known-field-5 c = search needs
 equality-fault-requires : tie.Need-equality-fault-requires
 equality-fault-requires c κs = search needs
 
+enum-told-3 : tie.Need-enum-told-3
+enum-told-3 c = search needs
+
+reached-requires-4 : tie.Need-reached-requires-4
+reached-requires-4 c κs = search needs
+
+choose-requires-5 : tie.Need-choose-requires-5
+choose-requires-5 c κs = search needs
+
 returns : tie.Need-returns
 returns c = rw (c .before .before .enum-told .given .1, c .choose .ensures, c .before .reached .ensures)
 
@@ -115,6 +124,9 @@ returns-6 c = rw (c .before .before .before .before .field4 .given .1, c .named-
 
 returns-7 : tie.Need-returns-7
 returns-7 c = rw (c .before .before .field5 .given .1) (c .equality-fault .ensures)
+
+returns-8 : tie.Need-returns-8
+returns-8 c = rw (c .before .before .enum-told3 .given .1, c .choose5 .ensures, c .before .reached4 .ensures)
 
 pub fault-spec : {M : Type 1} → statement M
 fault-spec =
@@ -148,10 +160,14 @@ fault-spec =
     named-fault-requires-3
     enum-known-field-5
     equality-fault-requires
+    enum-told-3
+    reached-requires-4
+    choose-requires-5
     returns
     returns-2
     returns-3
     returns-4
     returns-5
     returns-6
-    returns-7)
+    returns-7
+    returns-8)
