@@ -2,7 +2,7 @@
 //! parts each tag's value is made; lengths and named terms follow from it.
 
 use crate::query::{
-    Base, Edge, Guard, Query, Read, Source, MAX_ARRAYS, MAX_BASES, MAX_BOOLEANS, MAX_QUERY_BYTES,
+    Base, Edge, Guard, Kind, Query, Source, MAX_ARRAYS, MAX_BASES, MAX_BOOLEANS, MAX_QUERY_BYTES,
 };
 use crate::Refusal;
 
@@ -29,6 +29,7 @@ fn layout(tag: u8) -> Option<(&'static [Part], Part)> {
         5 => (&[Boolean, Array, Array], Array),
         6 => (&[Array, Base, Value], Base),
         7 => (&[Array, Array, Truth, Base, Base], Boolean),
+        8 => (&[Value], Base),
         _ => return None,
     })
 }
@@ -126,12 +127,13 @@ fn refuse_witnesses(query: &Query, numbers: &[usize]) -> Result<(), u8> {
     let [left, right, truth, left_witness, right_witness] = numbers[..] else {
         unreachable!("an equality has five parts");
     };
-    let left_base = &query.bases[left_witness];
-    let right_base = &query.bases[right_witness];
-    let left_read = left_base.read.as_ref().ok_or(8)?;
-    let right_read = right_base.read.as_ref().ok_or(8)?;
-    if left_read.array != left || right_read.array != right || left_read.index != right_read.index {
-        return Err(8);
+    let (left_base, right_base) = (&query.bases[left_witness], &query.bases[right_witness]);
+    match (&left_base.kind, &right_base.kind) {
+        (
+            Kind::Read { array: left_read, index },
+            Kind::Read { array: right_read, index: other },
+        ) if (*left_read, *right_read) == (left, right) && index == other => {}
+        _ => return Err(8),
     }
     if truth == 0 && left_base.value == right_base.value {
         return Err(9);
@@ -142,7 +144,8 @@ fn refuse_witnesses(query: &Query, numbers: &[usize]) -> Result<(), u8> {
 /// Adds a field without fault to the query.
 fn give(query: &mut Query, tag: u8, numbers: &[usize]) {
     match (tag, numbers) {
-        (1, &[value]) => query.bases.push(Base { value: value as u32, read: None }),
+        (1, &[value]) => query.bases.push(Base { value: value as u32, kind: Kind::Free }),
+        (8, &[value]) => query.bases.push(Base { value: value as u32, kind: Kind::Fixed }),
         (2, &[truth]) => query.booleans.push(truth == 1),
         (3, &[]) => query.arrays += 1,
         (4, &[array, index, value]) => {
@@ -159,7 +162,7 @@ fn give(query: &mut Query, tag: u8, numbers: &[usize]) {
         }
         (6, &[array, index, value]) => {
             query.sources.push(Source { origin: array, index, value: query.bases.len() });
-            query.bases.push(Base { value: value as u32, read: Some(Read { array, index }) });
+            query.bases.push(Base { value: value as u32, kind: Kind::Read { array, index } });
         }
         (7, &[left, right, truth, _, _]) => {
             let guard = Guard::Equality(query.booleans.len());

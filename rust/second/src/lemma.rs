@@ -21,14 +21,12 @@ pub fn lemma(query: &Query, reach: &Reach) -> Option<Vec<Literal>> {
     let from = &query.sources[first];
     let to = &query.sources[later];
     let mut literals = Vec::new();
-    if from.index != to.index {
+    if from.index != to.index && !query.both_fixed(from.index, to.index) {
         literals.push(Literal::Equal(from.index, to.index));
     }
     for edge in path(query, query.value(from.index), from.origin, to.origin) {
         let literal = edge_literal(query, edge, from.index);
-        if !literals.contains(&literal) {
-            literals.push(literal);
-        }
+        literals.extend(literal.filter(|literal| !literals.contains(literal)));
     }
     literals.push(Literal::Conclusion(from.value, to.value));
     Some(literals)
@@ -79,13 +77,15 @@ fn lowest_edge(
     unreachable!("an array other than the goal has a neighbour that is nearer");
 }
 
-/// The literal that an edge leaves on the path of a source with this index.
-fn edge_literal(query: &Query, edge: &Edge, index: usize) -> Literal {
-    match edge.guard {
+/// The literal that an edge leaves on the path of a source with this index. A
+/// write leaves none where its index and the source's are both fixed (02, E1).
+fn edge_literal(query: &Query, edge: &Edge, index: usize) -> Option<Literal> {
+    Some(match edge.guard {
+        Guard::Write(write_index) if query.both_fixed(index, write_index) => return None,
         Guard::Write(write_index) => Literal::Differ(index, write_index),
         Guard::Conditional(boolean) if !query.booleans[boolean] => Literal::False(boolean),
         Guard::Conditional(boolean) | Guard::Equality(boolean) => Literal::True(boolean),
-    }
+    })
 }
 
 /// The literals as fields 21 to 25.

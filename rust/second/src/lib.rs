@@ -1,7 +1,7 @@
 //! The second program: check, lookup and clauses of document 01, with what
-//! document 02 changes in them (E6), written from their text alone and by sets
-//! of arrays held in 64-bit words. It shares no code with the product that it
-//! is compared with.
+//! document 02 changes in them (E1, E6), written from their text alone and by
+//! sets of arrays held in 64-bit words. It shares no code with the product that
+//! it is compared with.
 
 mod clauses;
 mod decode;

@@ -5,15 +5,22 @@ pub const MAX_BASES: usize = 256;
 pub const MAX_BOOLEANS: usize = 64;
 pub const MAX_QUERY_BYTES: usize = 4_096;
 
-/// A base term. A read also knows what it reads, for the witnesses.
+/// A base term: its assigned value, and where that is from.
 pub struct Base {
     pub value: u32,
-    pub read: Option<Read>,
+    pub kind: Kind,
 }
 
-pub struct Read {
-    pub array: usize,
-    pub index: usize,
+/// What gives a base term its value in an interpretation.
+pub enum Kind {
+    Free,
+    /// The field itself, in every interpretation (02, E1).
+    Fixed,
+    /// An array at an index, which the witnesses ask for.
+    Read {
+        array: usize,
+        index: usize,
+    },
 }
 
 /// A write or a read: where its value comes from. `index` and `value` are
@@ -67,6 +74,11 @@ impl Query {
 
     pub fn source_value(&self, source: usize) -> u32 {
         self.value(self.sources[source].value)
+    }
+
+    /// Whether every interpretation compares these two terms alike.
+    pub fn both_fixed(&self, one: usize, other: usize) -> bool {
+        [one, other].into_iter().all(|base| matches!(self.bases[base].kind, Kind::Fixed))
     }
 
     /// Whether the edge can be walked by a source with this index value.

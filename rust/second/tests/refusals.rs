@@ -23,6 +23,9 @@ fn head_then_tag_then_length_then_value() {
     refused(&[variable()], &[9, 0], 2);
     refused(&[variable()], &[9, 0, 7], 3);
     refused(&[variable()], &[1, 0, 5], 4);
+    refused(&[variable()], &[8, 0], 2);
+    refused(&[variable()], &[8, 0, 3, 0, 0, 0], 4);
+    refused(&[variable()], &[8, 0, 4, 0, 0, 0], 2);
     refused(&vec![variable(); 48], &[4, 0, 6, 0], 2);
 }
 
@@ -31,6 +34,8 @@ fn too_many_comes_before_ungiven() {
     refused(&vec![variable(); 48], &write(0, 0, 0), 5);
     refused(&vec![boolean(1); 64], &boolean(2), 5);
     refused(&vec![base(1); 256], &read(0, 0, 0), 5);
+    refused(&[vec![fixed(1); 255], vec![base(1)]].concat(), &fixed(1), 5);
+    refused(&vec![fixed(1); 256], &base(1), 5);
 }
 
 #[test]
@@ -54,6 +59,15 @@ fn witnesses_read_their_own_side_at_one_base_number() {
     refused(&before, &equality(0, 1, 0, 2, 3), 8);
     refused(&before, &equality(0, 1, 0, 2, 4), 9);
     refused(&before, &equality(0, 0, 0, 2, 2), 9);
+}
+
+#[test]
+fn a_fixed_number_is_no_witness() {
+    let before = [fixed(5), variable(), variable(), read(0, 0, 5), read(1, 0, 6)];
+    for truth in [0, 1] {
+        refused(&before, &equality(0, 1, truth, 0, 2), 8);
+        refused(&before, &equality(0, 1, truth, 1, 0), 8);
+    }
 }
 
 #[test]

@@ -47,9 +47,18 @@ pub fn equality(
     field(7, &[numbers(&[left, right]), vec![truth], witnesses].concat())
 }
 
+pub fn fixed(value: u32) -> Vec<u8> {
+    field(8, &value.to_be_bytes())
+}
+
 /// K1 and K2: two reads of one array at two terms of value 5.
 pub fn two_reads(first: u32, second: u32) -> Vec<u8> {
-    [base(5), base(5), variable(), read(0, 0, first), read(0, 1, second)].concat()
+    two_reads_at([base(5), base(5)], first, second)
+}
+
+/// The same at these two terms.
+pub fn two_reads_at(indices: [Vec<u8>; 2], first: u32, second: u32) -> Vec<u8> {
+    [indices.concat(), variable(), read(0, 0, first), read(0, 1, second)].concat()
 }
 
 /// K3.
@@ -59,7 +68,12 @@ pub fn one_index() -> Vec<u8> {
 
 /// K4 and K5: a read above and a read beneath a write at `write_index`.
 pub fn read_through_write(write_index: u32) -> Vec<u8> {
-    let terms = [base(1), base(write_index), base(30), variable(), write(0, 1, 2)].concat();
+    read_through_write_at([base(1), base(write_index)])
+}
+
+/// The same with these terms for the reads' index and the write's.
+pub fn read_through_write_at(indices: [Vec<u8>; 2]) -> Vec<u8> {
+    let terms = [indices.concat(), base(30), variable(), write(0, 1, 2)].concat();
     [terms, read(1, 0, 8), read(0, 0, 9)].concat()
 }
 
