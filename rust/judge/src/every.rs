@@ -1,7 +1,7 @@
 //! Every accepted query of at most so many fields, with all values below two
 //! to the width: each field in turn is any that the terms so far allow.
 
-use crate::field::Field;
+use crate::field::{Field, Series};
 use crate::tiny::{base_values, reads};
 
 /// Visits each such query once, the empty one first.
@@ -21,18 +21,13 @@ fn extend(width: u32, most: usize, fields: &mut Vec<Field>, visit: &mut impl FnM
     }
 }
 
-fn count(fields: &[Field], gives: impl Fn(&Field) -> bool) -> u16 {
-    fields.iter().filter(|field| gives(field)).count() as u16
-}
-
 fn next_fields(width: u32, fields: &[Field]) -> Vec<Field> {
-    let bases = count(fields, |field| matches!(field, Field::Base { .. } | Field::Read { .. }));
-    let booleans =
-        count(fields, |field| matches!(field, Field::Boolean { .. } | Field::Equality { .. }));
-    let arrays = fields.len() as u16 - bases - booleans;
+    let count = |series| fields.iter().filter(|field| field.gives() == series).count() as u16;
+    let [bases, booleans, arrays] = [Series::Base, Series::Boolean, Series::Array].map(count);
     let mut next = vec![Field::Variable];
     next.extend([0, 1].map(|truth| Field::Boolean { truth }));
     next.extend((0..1 << width).map(|value| Field::Base { value }));
+    next.extend((0..1 << width).map(|value| Field::Fixed { value }));
     for array in 0..arrays {
         next.extend(over_array(width, array, arrays, bases, booleans));
     }

@@ -1,5 +1,5 @@
-//! The seven kinds of field as values, to and from bytes (01, The query).
-//! Generators build them, the judge evaluates them, the tester shrinks them.
+//! The eight kinds of field as values, to and from bytes (01, The query; 02,
+//! E1). Generators build them, the judge evaluates them, the tester shrinks them.
 
 #[derive(Clone, Copy, Debug, PartialEq, Eq)]
 pub enum Field {
@@ -10,6 +10,7 @@ pub enum Field {
     Conditional { boolean: u16, if_true: u16, if_false: u16 },
     Read { array: u16, index: u16, value: u32 },
     Equality { left: u16, right: u16, truth: u8, left_witness: u16, right_witness: u16 },
+    Fixed { value: u32 },
 }
 
 /// The three series of term numbers.
@@ -59,17 +60,33 @@ impl Field {
     /// The series whose next term the field gives.
     pub fn gives(&self) -> Series {
         match self {
-            Field::Base { .. } | Field::Read { .. } => Series::Base,
+            Field::Base { .. } | Field::Read { .. } | Field::Fixed { .. } => Series::Base,
             Field::Boolean { .. } | Field::Equality { .. } => Series::Boolean,
             Field::Variable | Field::Write { .. } | Field::Conditional { .. } => Series::Array,
         }
+    }
+
+    /// The assigned or fixed value of a base term.
+    pub fn value(&self) -> Option<u32> {
+        match *self {
+            Field::Base { value } | Field::Read { value, .. } | Field::Fixed { value } => {
+                Some(value)
+            }
+            _ => None,
+        }
+    }
+
+    pub fn is_fixed(&self) -> bool {
+        matches!(self, Field::Fixed { .. })
     }
 
     /// The terms that the field names, to be read or renumbered.
     pub fn names(&mut self) -> Vec<(Series, &mut u16)> {
         use Series::*;
         match self {
-            Field::Base { .. } | Field::Boolean { .. } | Field::Variable => vec![],
+            Field::Base { .. } | Field::Boolean { .. } | Field::Variable | Field::Fixed { .. } => {
+                vec![]
+            }
             Field::Write { array, index, value } => {
                 vec![(Array, array), (Base, index), (Base, value)]
             }
@@ -101,6 +118,7 @@ impl Field {
                 let witnesses = join(&[left_witness, right_witness]);
                 (7, [join(&[left, right]), vec![truth], witnesses].concat())
             }
+            Field::Fixed { value } => (8, value.to_be_bytes().to_vec()),
         }
     }
 
@@ -121,6 +139,7 @@ impl Field {
                 left_witness: two(5),
                 right_witness: two(7),
             },
+            (8, 4) => Field::Fixed { value: four(0) },
             _ => return None,
         })
     }
@@ -140,6 +159,7 @@ mod tests {
             Field::Conditional { boolean: 5, if_true: 6, if_false: 7 },
             Field::Read { array: 8, index: 9, value: 0xA0B0_C0D0 },
             Field::Equality { left: 1, right: 2, truth: 0, left_witness: 3, right_witness: 4 },
+            Field::Fixed { value: 0x0506_0708 },
         ];
         let mut bytes = encode(&fields);
         bytes.extend([1, 0, 4, 0]);

@@ -1,7 +1,7 @@
 //! The sources and edges of a query: the paper's words about them taken one by
 //! one, under the assigned values and truths.
 
-use crate::field::Field;
+use crate::field::{Field, Series};
 use crate::interpretation::Interpretation;
 use crate::lemma::{Lemma, Literal};
 
@@ -26,25 +26,28 @@ impl Edge {
     }
 }
 
-/// The sources and edges of the fields, and the assigned values and truths.
+/// The sources and edges of the fields, the assigned values and truths, and
+/// which base terms are fixed.
 pub struct Graph {
     pub sources: Vec<Source>,
     pub edges: Vec<Edge>,
     pub arrays: u16,
     guess: Interpretation,
+    fixed: Vec<bool>,
 }
 
 impl Graph {
     pub fn of(fields: &[Field], width: u32) -> Graph {
         let guess = Interpretation::assigned(fields, width);
-        let mut graph = Graph { sources: vec![], edges: vec![], arrays: 0, guess };
+        let fixed = fixed_bases(fields);
+        let mut graph = Graph { sources: vec![], edges: vec![], arrays: 0, guess, fixed };
         let (mut bases, mut booleans) = (0, 0);
         for field in fields {
             graph.add(field, bases, booleans);
-            match field {
-                Field::Base { .. } | Field::Read { .. } => bases += 1,
-                Field::Boolean { .. } | Field::Equality { .. } => booleans += 1,
-                _ => graph.arrays += 1,
+            match field.gives() {
+                Series::Base => bases += 1,
+                Series::Boolean => booleans += 1,
+                Series::Array => graph.arrays += 1,
             }
         }
         graph
@@ -87,23 +90,44 @@ impl Graph {
         edge.open && edge.write_index.is_none_or(|index| self.base(index) != index_value)
     }
 
+    pub fn is_fixed(&self, number: u16) -> bool {
+        self.fixed[usize::from(number)]
+    }
+
+    /// "An 'equal' or 'differ' between two fixed numbers" (02, E1).
+    pub fn compares_fixed(&self, literal: &Literal) -> bool {
+        literal.compared().is_some_and(|(one, other)| self.is_fixed(one) && self.is_fixed(other))
+    }
+
+    /// The literal of an edge, for a source with this index.
+    pub fn edge_literal(&self, index: u16, edge: &Edge) -> Literal {
+        let differ = edge.write_index.map(|write_index| Literal::Differ(index, write_index));
+        edge.literal.or(differ).expect("an edge is a write or has a literal")
+    }
+
     /// The lemma of two sources and a walk between them, by edge numbers.
     pub fn lemma(&self, first: &Source, later: &Source, walk: &[usize]) -> Lemma {
-        let mut all = Vec::new();
+        self.whole_lemma(first, later, walk).without(|literal| self.compares_fixed(literal))
+    }
+
+    /// The same with nothing left out of it: what it is in 01.
+    pub fn whole_lemma(&self, first: &Source, later: &Source, walk: &[usize]) -> Lemma {
+        let mut premise = Vec::new();
         if first.index != later.index {
-            all.push(Literal::Equal(first.index, later.index));
+            premise.push(Literal::Equal(first.index, later.index));
         }
         for number in walk {
-            let edge = &self.edges[*number];
-            all.extend(edge.literal);
-            all.extend(edge.write_index.map(|index| Literal::Differ(first.index, index)));
-        }
-        let mut premise: Vec<Literal> = Vec::new();
-        for literal in all {
+            let literal = self.edge_literal(first.index, &self.edges[*number]);
             if !premise.contains(&literal) {
                 premise.push(literal);
             }
         }
         Lemma { premise, conclusion: (first.value, later.value) }
     }
+}
+
+/// Of each base term whether it is fixed.
+pub fn fixed_bases(fields: &[Field]) -> Vec<bool> {
+    let bases = fields.iter().filter(|field| field.gives() == Series::Base);
+    bases.map(Field::is_fixed).collect()
 }

@@ -1,5 +1,6 @@
 //! Interpretations at a small width, each made from one number: its bits give
-//! the free base terms, free Booleans and array variables, in order.
+//! the free base terms, free Booleans and array variables, in order. A fixed
+//! number has its value in each of them (02, E1), and takes no bits.
 
 use crate::field::Field;
 
@@ -34,12 +35,9 @@ impl Interpretation {
     pub fn assigned(fields: &[Field], width: u32) -> Interpretation {
         let mut guess = Interpretation::new(width);
         for field in fields {
-            match *field {
-                Field::Base { value } | Field::Read { value, .. } => guess.bases.push(value),
-                Field::Boolean { truth } | Field::Equality { truth, .. } => {
-                    guess.booleans.push(truth == 1);
-                }
-                _ => {}
+            guess.bases.extend(field.value());
+            if let Field::Boolean { truth } | Field::Equality { truth, .. } = *field {
+                guess.booleans.push(truth == 1);
             }
         }
         guess
@@ -61,6 +59,7 @@ impl Interpretation {
     pub fn extend(&mut self, field: &Field, free: u32) {
         match *field {
             Field::Base { .. } => self.bases.push(free),
+            Field::Fixed { value } => self.bases.push(value),
             Field::Boolean { .. } => self.booleans.push(free == 1),
             Field::Variable => self.arrays.push(free),
             Field::Write { array, index, value } => {

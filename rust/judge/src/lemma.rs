@@ -11,7 +11,17 @@ pub enum Literal {
     False(u16),
 }
 
-#[derive(Debug, PartialEq, Eq)]
+impl Literal {
+    /// The two base terms of an "equal" or "differ".
+    pub fn compared(&self) -> Option<(u16, u16)> {
+        match *self {
+            Literal::Equal(one, other) | Literal::Differ(one, other) => Some((one, other)),
+            Literal::True(_) | Literal::False(_) => None,
+        }
+    }
+}
+
+#[derive(Clone, Debug, PartialEq, Eq)]
 pub struct Lemma {
     pub premise: Vec<Literal>,
     pub conclusion: (u16, u16),
@@ -60,13 +70,17 @@ impl Lemma {
         !self.premise_holds(terms) || self.conclusion_holds(terms)
     }
 
+    /// The lemma without the literals of the premise that the test holds of.
+    pub fn without(mut self, test: impl Fn(&Literal) -> bool) -> Lemma {
+        self.premise.retain(|literal| !test(literal));
+        self
+    }
+
     /// The base terms that the lemma names, each once.
     pub fn bases(&self) -> Vec<u16> {
         let mut named = vec![self.conclusion.0, self.conclusion.1];
-        for literal in &self.premise {
-            if let Literal::Equal(one, other) | Literal::Differ(one, other) = *literal {
-                named.extend([one, other]);
-            }
+        for (one, other) in self.premise.iter().filter_map(Literal::compared) {
+            named.extend([one, other]);
         }
         named.sort_unstable();
         named.dedup();

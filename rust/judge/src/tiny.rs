@@ -2,7 +2,7 @@
 //! values are those of a random interpretation, now and then disturbed, so
 //! that both verdicts come often.
 
-use crate::field::Field;
+use crate::field::{Field, Series};
 use crate::interpretation::{free_bits, Interpretation};
 use crate::random::Random;
 
@@ -10,14 +10,15 @@ const MOST_FIELDS: usize = 16;
 
 /// A query of at most 16 fields and `bits` bits of free choice.
 pub fn tiny(random: &mut Random, width: u32, bits: u32) -> Vec<Field> {
-    let mut fields = vec![Field::Base { value: 0 }, Field::Variable];
+    let first = *random.pick(&[Field::Base { value: 0 }, Field::Fixed { value: 0 }]);
+    let mut fields = vec![first, Field::Variable];
     let mut terms = Interpretation::new(width);
     let wrong = *random.pick(&[0, 20, 50]);
     for field in &mut fields {
         settle(random, &mut terms, field, width, 0);
     }
     for _ in 0..4 + random.below(MOST_FIELDS - 5) {
-        let Some(mut field) = any_field(random, &fields, &terms) else { continue };
+        let Some(mut field) = any_field(random, &fields, &terms, width) else { continue };
         if free_bits(&fields, width) + free_bits(&[field], width) <= bits {
             settle(random, &mut terms, &mut field, width, wrong);
             fields.push(field);
@@ -29,7 +30,7 @@ pub fn tiny(random: &mut Random, width: u32, bits: u32) -> Vec<Field> {
 }
 
 /// Gives the field's term a value in the interpretation, and assigns it,
-/// rightly or by `wrong` percent at random.
+/// rightly or by `wrong` percent at random. A fixed number keeps its own.
 fn settle(
     random: &mut Random,
     terms: &mut Interpretation,
@@ -58,11 +59,17 @@ fn settle(
 }
 
 /// A field of a random kind over the terms so far, if it has the terms.
-fn any_field(random: &mut Random, fields: &[Field], terms: &Interpretation) -> Option<Field> {
+fn any_field(
+    random: &mut Random,
+    fields: &[Field],
+    terms: &Interpretation,
+    width: u32,
+) -> Option<Field> {
     let array = |random: &mut Random| random.below(terms.arrays.len()) as u16;
     let base = |random: &mut Random| random.below(terms.bases.len()) as u16;
-    Some(match random.below(16) {
+    Some(match random.below(18) {
         0 | 1 => Field::Base { value: 0 },
+        16 | 17 => Field::Fixed { value: random.below(1 << width) as u32 },
         2 => Field::Boolean { truth: 0 },
         3 => Field::Variable,
         4..=6 => Field::Write { array: array(random), index: base(random), value: base(random) },
@@ -96,18 +103,14 @@ pub fn reads(fields: &[Field]) -> Vec<(u16, u16, u16)> {
         if let Field::Read { array, index, .. } = *field {
             reads.push((bases, array, index));
         }
-        bases += u16::from(matches!(field, Field::Base { .. } | Field::Read { .. }));
+        bases += u16::from(field.gives() == Series::Base);
     }
     reads
 }
 
-/// The assigned values of the base terms.
+/// The assigned or fixed values of the base terms.
 pub fn base_values(fields: &[Field]) -> Vec<u32> {
-    let value = |field: &Field| match *field {
-        Field::Base { value } | Field::Read { value, .. } => Some(value),
-        _ => None,
-    };
-    fields.iter().filter_map(value).collect()
+    fields.iter().filter_map(Field::value).collect()
 }
 
 fn make_accepted(fields: &mut [Field]) {

@@ -74,11 +74,23 @@ impl Walks {
         reaching.map_or(0, |source| self.0.base(source.value))
     }
 
-    /// The lemma that 01 chooses, or nothing without a conflicting pair.
+    /// The lemma that 01 and 02 choose, or nothing without a conflicting pair.
     pub fn chosen(&self) -> Option<Lemma> {
+        self.on_the_path(Graph::lemma)
+    }
+
+    /// The same with nothing left out of it.
+    pub fn whole(&self) -> Option<Lemma> {
+        self.on_the_path(Graph::whole_lemma)
+    }
+
+    fn on_the_path(
+        &self,
+        lemma: impl Fn(&Graph, &Source, &Source, &[usize]) -> Lemma,
+    ) -> Option<Lemma> {
         let (first, later) = self.pair()?;
         let walk = self.least_walk(self.0.base(first.index), first.origin, later.origin)?;
-        Some(self.0.lemma(first, later, &walk))
+        Some(lemma(&self.0, first, later, &walk))
     }
 
     /// The least first source that conflicts with a later one, with the least
@@ -139,10 +151,11 @@ mod tests {
         }
     }
 
+    /// Sixteen whose one index is free, and sixteen whose one index is fixed.
     #[test]
-    fn of_all_queries_of_six_fields_sixteen_have_another_path_than_before() {
+    fn of_all_queries_of_six_fields_thirty_two_have_another_path_than_before() {
         let mut counts = Counts::default();
         every(1, 6, &mut |fields| counts.add(fields, 1));
-        assert_eq!((counts.others, counts.longer), (16, 0));
+        assert_eq!((counts.others, counts.longer), (32, 0));
     }
 }

@@ -6,15 +6,17 @@ use crate::field::Field;
 use crate::interpretation::free_bits;
 use crate::random::Random;
 
-/// Base terms: where every array is read, and another index. Boolean 0.
-const TERMS: [Field; 3] =
-    [Field::Base { value: 0 }, Field::Base { value: 1 }, Field::Boolean { truth: 1 }];
+/// Base terms: where every array is read, and another index.
 const INDEX: u16 = 0;
 const OTHER_INDEX: u16 = 1;
 
-/// A query of three to six arrays and `bits` bits of free choice at most.
+/// A query of three to six arrays and `bits` bits of free choice at most. Its
+/// two indices are free or fixed.
 pub fn ways(random: &mut Random, width: u32, bits: u32) -> Vec<Field> {
-    let mut fields = TERMS.to_vec();
+    let index =
+        |value: u32| if random.chance(50) { Field::Fixed { value } } else { Field::Base { value } };
+    let mut fields = [0, 1].map(index).to_vec();
+    fields.push(Field::Boolean { truth: 1 });
     let arrays = 3 + random.below(4) as u16;
     let wrong = random.below(usize::from(arrays)) as u16;
     for array in 0..arrays {
