@@ -1,6 +1,10 @@
 //! Faults injected into what a right product answers, to show that the tester
 //! finds and shrinks them. Each is named by what goes wrong.
 
+use crate::disturb::{
+    with_cells_cut_off, with_last_byte_lost, with_pair_lost, with_sign_turned, without_equal,
+    CELLS_LEFT,
+};
 use crate::expected::expected;
 use crate::product::Product;
 use crate::request::{Question, Request};
@@ -57,9 +61,6 @@ pub const FAULTS: [Fault; 14] = [
     Fault::EdgesBeforeWrites,
     Fault::HighestEdge,
 ];
-
-/// How many cells of one array are left where they are cut off.
-const CELLS_LEFT: usize = 48;
 
 /// The bytes of an array variable, of a base term, and of a read.
 const FIELD_BYTES: [usize; 3] = [3, 7, 11];
@@ -179,40 +180,4 @@ fn with_another_path(rule: Rule, request: &Request, answer: String) -> String {
         }
         _ => answer,
     }
-}
-
-fn without_equal(answer: &str) -> String {
-    answer.split_inclusive('\n').filter(|line| !line.starts_with("eq ")).collect()
-}
-
-fn with_pair_lost(answer: &str) -> String {
-    let (first, rest) = answer.split_once('\n').unwrap_or((answer, ""));
-    match first.strip_prefix("conflict ").and_then(|pairs| pairs.parse::<usize>().ok()) {
-        Some(pairs) => format!("conflict {}\n{rest}", pairs - 1),
-        None => answer.to_string(),
-    }
-}
-
-fn with_cells_cut_off(answer: &str) -> String {
-    let lines: Vec<&str> = answer.split_inclusive('\n').collect();
-    let array = |line: &str| line.split(' ').next().map(str::to_string);
-    let arrays = lines.chunk_by(|one, next| array(one) == array(next));
-    arrays.flat_map(|cells| &cells[..cells.len().min(CELLS_LEFT)]).copied().collect()
-}
-
-fn with_last_byte_lost(answer: &str) -> String {
-    let lines: Vec<&str> = answer.lines().collect();
-    let words: Vec<&str> = lines[0].split(' ').collect();
-    match words[..] {
-        ["conflict", _, length] => {
-            let end = 2 * length.parse::<usize>().expect("a length");
-            format!("{}\n{}aa{}\n", lines[0], &lines[1][..end - 2], &lines[1][end..])
-        }
-        _ => answer.to_string(),
-    }
-}
-
-fn with_sign_turned(answer: &str) -> String {
-    // The first clause that follows another one and begins with a minus.
-    answer.replacen(" 0 -", " 0 ", 1)
 }

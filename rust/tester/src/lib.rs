@@ -7,6 +7,7 @@ pub mod builder;
 pub mod cases;
 pub mod cells;
 pub mod compare;
+pub mod disturb;
 pub mod drop_fields;
 pub mod exhaustive;
 pub mod expected;
