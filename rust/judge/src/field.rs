@@ -76,6 +76,16 @@ impl Field {
         }
     }
 
+    /// The same field with another value, where it has one.
+    pub fn with_value(mut self, other: u32) -> Field {
+        if let Field::Base { value } | Field::Read { value, .. } | Field::Fixed { value } =
+            &mut self
+        {
+            *value = other;
+        }
+        self
+    }
+
     pub fn is_fixed(&self) -> bool {
         matches!(self, Field::Fixed { .. })
     }

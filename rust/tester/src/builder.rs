@@ -23,6 +23,8 @@ pub struct Builder {
     pub booleans: Vec<bool>,
     pub arrays: Vec<Memory>,
     pub reads: Vec<Reading>,
+    /// The base terms that are no reads: those that can be constants.
+    pub plain: Vec<u16>,
 }
 
 impl Builder {
@@ -52,7 +54,9 @@ impl Builder {
 
     pub fn base(&mut self, value: u32) -> u16 {
         self.fields.push(Field::Base { value });
-        self.give_base(value, value)
+        let base = self.give_base(value, value);
+        self.plain.push(base);
+        base
     }
 
     fn give_base(&mut self, value: u32, assigned: u32) -> u16 {

@@ -20,7 +20,7 @@ const INDICES: u64 = 3;
 const FEWER_FIELDS: usize = 2;
 
 /// What each byte in turn becomes: no tag, each tag, one more, and the last.
-const DAMAGES: [u8; 10] = [0, 1, 2, 3, 4, 5, 6, 7, 8, 0xFF];
+const DAMAGES: [u8; 11] = [0, 1, 2, 3, 4, 5, 6, 7, 8, 9, 0xFF];
 
 /// How much longer than its answer a run of numbers is.
 const SPARE: usize = 4;

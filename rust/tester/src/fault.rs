@@ -2,15 +2,18 @@
 //! finds and shrinks them. Each is named by what goes wrong.
 
 use crate::disturb::{
-    with_cells_cut_off, with_last_byte_lost, with_pair_lost, with_sign_turned, without_equal,
-    CELLS_LEFT,
+    with_cells_cut_off, with_last_byte_lost, with_pair_lost, with_sign_turned, without_comparisons,
+    without_conclusion, without_equal, CELLS_LEFT,
 };
 use crate::expected::expected;
+use crate::mistake::mistaken;
 use crate::product::Product;
 use crate::request::{Question, Request};
 use crate::rooms::answer_length;
 use crate::rules::{lemma_by, lines, Rule};
-use judge::field::{decode, encode, Field};
+use judge::field::decode;
+use judge::graph::fixed_bases;
+use judge::tiny::base_values;
 
 #[derive(Clone, Copy, Debug, PartialEq, Eq)]
 pub enum Fault {
@@ -43,9 +46,23 @@ pub enum Fault {
     EdgesBeforeWrites,
     /// Of the edges on such a path the highest-numbered is taken.
     HighestEdge,
+    /// A comparison is left out where one of its terms is fixed.
+    LeftOutByOne,
+    /// A comparison of two fixed numbers is kept.
+    KeptByTwo,
+    /// A conclusion between two fixed numbers is left out.
+    ConclusionLeftOut,
+    /// A term counts as fixed where its guessed value is that of a fixed one.
+    FixedByValue,
+    /// A fixed number may be a witness.
+    FixedAsWitness,
+    /// The guess has 0 for a fixed number.
+    FixedValueIgnored,
+    /// A write whose literal is left out is no write of the path.
+    LeftOutWriteUncounted,
 }
 
-pub const FAULTS: [Fault; 14] = [
+pub const FAULTS: [Fault; 21] = [
     Fault::BranchNotChosen,
     Fault::FalseEqualityFollowed,
     Fault::WriteTakenAsVariable,
@@ -60,6 +77,13 @@ pub const FAULTS: [Fault; 14] = [
     Fault::ShortestWalk,
     Fault::EdgesBeforeWrites,
     Fault::HighestEdge,
+    Fault::LeftOutByOne,
+    Fault::KeptByTwo,
+    Fault::ConclusionLeftOut,
+    Fault::FixedByValue,
+    Fault::FixedAsWitness,
+    Fault::FixedValueIgnored,
+    Fault::LeftOutWriteUncounted,
 ];
 
 /// The bytes of an array variable, of a base term, and of a read.
@@ -81,6 +105,7 @@ impl Fault {
             Fault::ShortestWalk => Some(Rule::FewestEdges),
             Fault::EdgesBeforeWrites => Some(Rule::EdgesBeforeWrites),
             Fault::HighestEdge => Some(Rule::HighestEdge),
+            Fault::LeftOutWriteUncounted => Some(Rule::FewestComparisons),
             _ => None,
         }
     }
@@ -102,9 +127,11 @@ pub struct FaultyProduct<'a> {
 
 impl Product for FaultyProduct<'_> {
     fn answers(&mut self, requests: &[Request]) -> Vec<String> {
-        let mistaken: Vec<Request> =
-            requests.iter().map(|request| self.mistaken(request)).collect();
-        let answers = self.right.answers(&mistaken);
+        let mistaken = |request: &Request| Request {
+            query: mistaken(self.fault, &request.query),
+            ..request.clone()
+        };
+        let answers = self.right.answers(&requests.iter().map(mistaken).collect::<Vec<_>>());
         let disturbed = |(request, answer)| self.disturb(request, answer);
         requests.iter().zip(answers).map(disturbed).collect()
     }
@@ -115,28 +142,6 @@ impl Product for FaultyProduct<'_> {
 }
 
 impl FaultyProduct<'_> {
-    fn mistaken(&self, request: &Request) -> Request {
-        Request { query: self.mistake(&request.query), ..request.clone() }
-    }
-
-    /// The query as the faulty copy takes it.
-    fn mistake(&self, query: &[u8]) -> Vec<u8> {
-        let (mut fields, rest) = decode(query);
-        for field in &mut fields {
-            match (self.fault, field) {
-                (Fault::BranchNotChosen, Field::Conditional { if_true, if_false, .. }) => {
-                    std::mem::swap(if_true, if_false);
-                }
-                (Fault::FalseEqualityFollowed, Field::Equality { truth, .. }) => *truth |= 1,
-                (Fault::WriteTakenAsVariable, field @ Field::Write { .. }) => {
-                    *field = Field::Variable;
-                }
-                _ => {}
-            }
-        }
-        [encode(&fields), rest.to_vec()].concat()
-    }
-
     /// The answer as the faulty copy gives it.
     fn disturb(&self, request: &Request, answer: String) -> String {
         if let Some(rule) = self.fault.rule() {
@@ -144,6 +149,19 @@ impl FaultyProduct<'_> {
         }
         match (self.fault, request.question) {
             (Fault::EqualLeftOut, Question::Verdict) => without_equal(&answer),
+            (Fault::LeftOutByOne, Question::Verdict) => {
+                let fixed = Fixed::of(&request.query);
+                without_comparisons(&answer, |one, other| fixed.has(one) || fixed.has(other))
+            }
+            (Fault::FixedByValue, Question::Verdict) => {
+                let fixed = Fixed::of(&request.query);
+                let by_value = |one, other| fixed.has_value_of(one) && fixed.has_value_of(other);
+                without_comparisons(&answer, by_value)
+            }
+            (Fault::ConclusionLeftOut, Question::Verdict) => {
+                let fixed = Fixed::of(&request.query);
+                without_conclusion(&answer, |one, other| fixed.has(one) && fixed.has(other))
+            }
             (Fault::PairLost, Question::Verdict) => with_pair_lost(&answer),
             (Fault::CellsCutOff, Question::Verdict) => with_cells_cut_off(&answer),
             (Fault::LastByteLost, Question::Check { .. }) => with_last_byte_lost(&answer),
@@ -179,5 +197,27 @@ fn with_another_path(rule: Rule, request: &Request, answer: String) -> String {
             format!("{first}\n{}", lines(&lemma))
         }
         _ => answer,
+    }
+}
+
+/// Which base terms of an accepted query are fixed, and what values all have.
+struct Fixed {
+    bases: Vec<bool>,
+    values: Vec<u32>,
+}
+
+impl Fixed {
+    fn of(query: &[u8]) -> Fixed {
+        let (fields, _) = decode(query);
+        Fixed { bases: fixed_bases(&fields), values: base_values(&fields) }
+    }
+
+    fn has(&self, base: usize) -> bool {
+        self.bases[base]
+    }
+
+    fn has_value_of(&self, base: usize) -> bool {
+        let fixed = (0..self.bases.len()).filter(|one| self.has(*one));
+        fixed.map(|one| self.values[one]).any(|value| value == self.values[base])
     }
 }

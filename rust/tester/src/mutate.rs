@@ -1,20 +1,22 @@
 //! Damage done to queries: mostly they are then refused, each refusal number
 //! and offset in turn.
 
+use judge::field::{decode, encode, Field};
+use judge::graph::fixed_bases;
 use judge::random::Random;
 
 /// The longest query that a request carries.
 const MOST_BYTES: usize = 5_000;
 
-/// The lengths that belong to the tags 01 to 07.
-const OWN_LENGTHS: [usize; 7] = [4, 1, 0, 6, 6, 8, 9];
+/// The lengths that belong to the tags 01 to 08.
+const OWN_LENGTHS: [usize; 8] = [4, 1, 0, 6, 6, 8, 9, 4];
 
 /// The length of a whole equality, and the place of its truth.
 const EQUALITY_BYTES: usize = 12;
 const EQUALITY_TRUTH: usize = 7;
 
 /// The fields of the bytes by their heads, as far as they go.
-fn raw_fields(bytes: &[u8]) -> Vec<Vec<u8>> {
+pub fn raw_fields(bytes: &[u8]) -> Vec<Vec<u8>> {
     let mut fields = Vec::new();
     let mut rest = bytes;
     while rest.len() >= 3 {
@@ -60,7 +62,7 @@ fn mutate_once(random: &mut Random, mut query: Vec<u8>) -> Vec<u8> {
 fn mutate_fields(random: &mut Random, query: &[u8]) -> Vec<u8> {
     let mut fields = raw_fields(query);
     let (one, other) = (random.below(fields.len()), random.below(fields.len()));
-    match random.below(6) {
+    match random.below(7) {
         0 => fields.swap(one, other),
         1 => fields.insert(other, fields[one].clone()),
         2 => {
@@ -68,9 +70,17 @@ fn mutate_fields(random: &mut Random, query: &[u8]) -> Vec<u8> {
         }
         3 => fields.insert(one, any_field(random)),
         4 => change_length(random, &mut fields[one]),
+        5 => change_tag(random, &mut fields[one]),
         _ => change_number(random, &mut fields[one]),
     }
     fields.concat()
+}
+
+/// Another tag, mostly of another length.
+fn change_tag(random: &mut Random, field: &mut [u8]) {
+    if let Some(tag) = field.first_mut() {
+        *tag = random.below(OWN_LENGTHS.len() + 2) as u8;
+    }
 }
 
 /// Changes an equality, if there is one: its truth, its sides or a witness.
@@ -152,11 +162,30 @@ pub fn lengthened(random: &mut Random, mut query: Vec<u8>) -> Vec<u8> {
     query
 }
 
+/// A fixed number for a witness, which is to be a read, where the query has
+/// both a fixed number and an equality.
+pub fn with_fixed_witness(random: &mut Random, query: &[u8]) -> Vec<u8> {
+    let (mut fields, rest) = decode(query);
+    let bases = (0..).zip(fixed_bases(&fields));
+    let fixed: Vec<u16> = bases.filter(|base| base.1).map(|base| base.0).collect();
+    let mut witnesses = Vec::new();
+    for field in &mut fields {
+        if let Field::Equality { left_witness, right_witness, .. } = field {
+            witnesses.extend([left_witness, right_witness]);
+        }
+    }
+    if !fixed.is_empty() && !witnesses.is_empty() {
+        let place = random.below(witnesses.len());
+        *witnesses[place] = *random.pick(&fixed);
+    }
+    [encode(&fields), rest.to_vec()].concat()
+}
+
 /// Series filled to their end, then one field more of any kind.
 pub fn overfilled(random: &mut Random) -> Vec<u8> {
     let mut query = Vec::new();
-    for (field, most) in [(&[3, 0, 0][..], 48), (&[1, 0, 4, 0, 0, 0, 9], 256), (&[2, 0, 1, 1], 64)]
-    {
+    let base = [*random.pick(&[1, 8]), 0, 4, 0, 0, 0, 9];
+    for (field, most) in [(&[3, 0, 0][..], 48), (&base, 256), (&[2, 0, 1, 1], 64)] {
         let count = *random.pick(&[most, most, most - 1, 1]);
         query.extend(field.repeat(count));
     }

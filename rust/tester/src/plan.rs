@@ -3,18 +3,20 @@
 
 use crate::bounds::{all_pairs, longest_detour, longest_lemma, many_paths, Links};
 use crate::cells::{many_cells, most_cells};
-use crate::mutate::{lengthened, mutated, overfilled};
+use crate::constants::{freed, with_constants, with_fixed};
+use crate::mutate::{lengthened, mutated, overfilled, with_fixed_witness};
 use crate::request::{Question, Request};
 use crate::rooms::{answer_length, with_room};
 use crate::rules::{byte_count, lemma_by, Rule};
 use crate::shapes::SHAPES;
-use crate::ways::many_ways;
-use judge::field::{decode, Field, Series};
+use crate::ways::{many_ways, written_apart};
+use judge::field::{decode, Series};
 use judge::random::Random;
+use judge::tiny::base_values;
 use second::{Checked, MAX_CLAUSE_NUMBERS, MAX_LEMMA_BYTES};
 
 /// How many queries at the start of every run are the constructed ones.
-const CONSTRUCTED: u64 = 12;
+const CONSTRUCTED: u64 = 14;
 
 /// All requests about the numbered query of a seed.
 pub fn requests(seed: u64, number: u64, wide_index: bool) -> Vec<Request> {
@@ -45,7 +47,10 @@ fn query(random: &mut Random, number: u64) -> Vec<u8> {
                 let which = random.number() % CONSTRUCTED;
                 constructed(random, which)
             }
-            2..=9 => many_paths(random),
+            2..=9 => {
+                let query = many_paths(random);
+                with_constants(random, query)
+            }
             10..=29 => {
                 let query = shaped(random);
                 mutated(random, query)
@@ -58,12 +63,26 @@ fn query(random: &mut Random, number: u64) -> Vec<u8> {
             }
             38..=40 => {
                 let conflict = random.chance(50);
-                many_cells(random, conflict)
+                let query = many_cells(random, conflict);
+                with_constants(random, query)
             }
-            41..=50 => many_ways(random),
+            41..=50 => ways(random),
+            51..=53 => {
+                let query = ways(random);
+                with_fixed_witness(random, &query)
+            }
+            54..=58 => {
+                let query = written_apart(random);
+                with_constants(random, query)
+            }
             _ => shaped(random),
         },
     }
+}
+
+fn ways(random: &mut Random) -> Vec<u8> {
+    let query = many_ways(random);
+    with_constants(random, query)
 }
 
 fn constructed(random: &mut Random, which: u64) -> Vec<u8> {
@@ -77,16 +96,21 @@ fn constructed(random: &mut Random, which: u64) -> Vec<u8> {
         8 => most_cells(random),
         9 => many_cells(random, false),
         10 => many_cells(random, true),
-        _ => {
+        11 => {
             let writes = random.below(4);
             longest_detour(random, writes)
         }
+        // The longest path with all numbers fixed: the conclusion alone is left.
+        12 => with_fixed(&longest_lemma(random, Links::Writes), |_, _| true),
+        // With all but the first source's index: nothing is left out.
+        _ => with_fixed(&longest_lemma(random, Links::Writes), |number, _| number > 0),
     }
 }
 
 fn shaped(random: &mut Random) -> Vec<u8> {
     let shape = random.pick(&SHAPES);
-    shape.query(random)
+    let query = shape.query(random);
+    with_constants(random, query)
 }
 
 fn cut(random: &mut Random) -> Vec<u8> {
@@ -98,12 +122,14 @@ fn cut(random: &mut Random) -> Vec<u8> {
 /// The question with a room: often exactly enough, or one too little.
 fn with_any_room(random: &mut Random, question: Question, query: &[u8], most: usize) -> Question {
     let exact = answer_length(question, query).unwrap_or(0);
-    let room = match random.below(9) {
+    let room = match random.below(10) {
         0..=2 => exact,
         3 | 4 => exact.saturating_sub(1),
         5 => exact + 1 + random.below(20),
         6 => random.below(exact + 1),
         7 => shortest_walk_room(query),
+        // What the answer would take were nothing left out of the lemma.
+        8 => answer_length(question, &freed(query)).unwrap_or(0),
         _ => *random.pick(&[0, 1, most - 1, most, most + 1]),
     };
     with_room(question, room)
@@ -127,7 +153,7 @@ fn lookup(random: &mut Random, query: &[u8], wide_index: bool) -> Question {
         0 => *random.pick(&[arrays, arrays + 1, 48, 1 << 16, 1 << 32, u64::MAX]),
         _ => random.number() % arrays.max(1),
     };
-    let values: Vec<u32> = fields.iter().filter_map(value).collect();
+    let values = base_values(&fields);
     let index = match random.below(8) {
         0 => random.number() as u32,
         1 => *random.pick(&[0, 1, u32::MAX]),
@@ -137,11 +163,4 @@ fn lookup(random: &mut Random, query: &[u8], wide_index: bool) -> Question {
     };
     let wide = if wide_index && random.chance(20) { random.number() << 32 } else { 0 };
     Question::Lookup { array, index: u64::from(index) | wide }
-}
-
-fn value(field: &Field) -> Option<u32> {
-    match *field {
-        Field::Base { value } | Field::Read { value, .. } => Some(value),
-        _ => None,
-    }
 }

@@ -2,7 +2,7 @@
 //! answer by these, and where the two differ a query shows the rule.
 
 use judge::field::decode;
-use judge::graph::{Edge, Graph, Source};
+use judge::graph::{Edge, Graph};
 use judge::lemma::{Lemma, Literal};
 use second::WIDTH;
 
@@ -16,21 +16,13 @@ pub enum Rule {
     EdgesBeforeWrites,
     /// As 02 says, but at each step the highest-numbered edge.
     HighestEdge,
+    /// The fewest writes whose literal stays in the lemma, and among those the
+    /// fewest edges.
+    FewestComparisons,
 }
 
 /// What a walk has of each kind, the first to be least.
 type Measure = (usize, usize);
-
-impl Rule {
-    fn measure(self, edge: &Edge) -> Measure {
-        let writes = usize::from(edge.is_write());
-        match self {
-            Rule::FewestWrites | Rule::HighestEdge => (writes, 1),
-            Rule::FewestEdges => (1, 0),
-            Rule::EdgesBeforeWrites => (1, writes),
-        }
-    }
-}
 
 /// The lemma of an accepted query by this rule; nothing without a conflict.
 pub fn lemma_by(rule: Rule, query: &[u8]) -> Option<Lemma> {
@@ -39,7 +31,8 @@ pub fn lemma_by(rule: Rule, query: &[u8]) -> Option<Lemma> {
     (0..graph.sources.len()).find_map(|first| {
         let later = least_later(graph, first)?;
         let (first, later) = (&graph.sources[first], &graph.sources[later]);
-        Some(graph.lemma(first, later, &path(rule, graph, first, later)))
+        let path = Search { rule, graph, index: first.index }.path(first.origin, later.origin);
+        Some(graph.lemma(first, later, &path))
     })
 }
 
@@ -77,62 +70,89 @@ fn least_later(graph: &Graph, first: usize) -> Option<usize> {
     };
     let mut later = (first + 1..graph.sources.len()).filter(differs).peekable();
     later.peek()?;
-    let reached = measures(Rule::FewestEdges, graph, graph.base(from.index), from.origin);
+    let search = Search { rule: Rule::FewestEdges, graph, index: from.index };
+    let reached = search.measures(from.origin);
     later.find(|later| reached[usize::from(graph.sources[*later].origin)].is_some())
 }
 
-/// Each edge that is open to the value, by number, from either of its ends to
-/// the other.
-fn steps(graph: &Graph, value: u32) -> impl DoubleEndedIterator<Item = (usize, &Edge, u16, u16)> {
-    let open = graph.edges.iter().enumerate().filter(move |(_, edge)| graph.is_open(edge, value));
-    open.flat_map(|(number, edge)| {
-        let (one, other) = edge.ends;
-        [(number, edge, one, other), (number, edge, other, one)]
-    })
+/// The search for a path by a rule, of a source with this index term.
+struct Search<'a> {
+    rule: Rule,
+    graph: &'a Graph,
+    index: u16,
 }
 
-/// For each array the least that a walk from it to the goal has, if there is one.
-fn measures(rule: Rule, graph: &Graph, value: u32, goal: u16) -> Vec<Option<Measure>> {
-    let mut measures = vec![None; usize::from(graph.arrays)];
-    measures[usize::from(goal)] = Some((0, 0));
-    let mut settled = false;
-    while !settled {
-        settled = true;
-        for (_, edge, near, far) in steps(graph, value) {
-            let over = over(rule, edge, measures[usize::from(far)]);
-            let known = &mut measures[usize::from(near)];
-            if over.is_some_and(|over| known.is_none_or(|known| over < known)) {
-                *known = over;
-                settled = false;
+impl Search<'_> {
+    /// What an edge adds to a walk.
+    fn measure(&self, edge: &Edge) -> Measure {
+        let writes = usize::from(edge.is_write());
+        match self.rule {
+            Rule::FewestWrites | Rule::HighestEdge => (writes, 1),
+            Rule::FewestEdges => (1, 0),
+            Rule::EdgesBeforeWrites => (1, writes),
+            Rule::FewestComparisons => {
+                let literal = self.graph.edge_literal(self.index, edge);
+                (if self.graph.compares_fixed(&literal) { 0 } else { writes }, 1)
             }
         }
     }
-    measures
-}
 
-/// What a walk over this edge has, with what is left beyond it.
-fn over(rule: Rule, edge: &Edge, beyond: Option<Measure>) -> Option<Measure> {
-    let own = rule.measure(edge);
-    beyond.map(|beyond| (own.0 + beyond.0, own.1 + beyond.1))
-}
-
-/// The path between the origins, by edge numbers.
-fn path(rule: Rule, graph: &Graph, first: &Source, later: &Source) -> Vec<usize> {
-    let value = graph.base(first.index);
-    let measures = measures(rule, graph, value, later.origin);
-    let mut place = first.origin;
-    let mut path = Vec::new();
-    while place != later.origin {
-        let left = measures[usize::from(place)];
-        let mut nearer = steps(graph, value).filter(|(_, edge, near, far)| {
-            *near == place && over(rule, edge, measures[usize::from(*far)]) == left
-        });
-        let step = if rule == Rule::HighestEdge { nearer.next_back() } else { nearer.next() };
-        let (number, _, _, far) = step.expect("a least walk has a first edge");
-        path.push(number);
-        place = far;
+    /// What a walk over this edge has, with what is left beyond it.
+    fn over(&self, edge: &Edge, beyond: Option<Measure>) -> Option<Measure> {
+        let own = self.measure(edge);
+        beyond.map(|beyond| (own.0 + beyond.0, own.1 + beyond.1))
     }
-    path
+
+    /// Each edge that is open to the index, by number, from either of its ends
+    /// to the other.
+    fn steps(&self) -> impl DoubleEndedIterator<Item = (usize, &Edge, u16, u16)> {
+        let value = self.graph.base(self.index);
+        let edges = self.graph.edges.iter().enumerate();
+        let open = edges.filter(move |(_, edge)| self.graph.is_open(edge, value));
+        open.flat_map(|(number, edge)| {
+            let (one, other) = edge.ends;
+            [(number, edge, one, other), (number, edge, other, one)]
+        })
+    }
+
+    /// For each array the least that a walk from it to the goal has, if there
+    /// is one.
+    fn measures(&self, goal: u16) -> Vec<Option<Measure>> {
+        let mut measures = vec![None; usize::from(self.graph.arrays)];
+        measures[usize::from(goal)] = Some((0, 0));
+        let mut settled = false;
+        while !settled {
+            settled = true;
+            for (_, edge, near, far) in self.steps() {
+                let over = self.over(edge, measures[usize::from(far)]);
+                let known = &mut measures[usize::from(near)];
+                if over.is_some_and(|over| known.is_none_or(|known| over < known)) {
+                    *known = over;
+                    settled = false;
+                }
+            }
+        }
+        measures
+    }
+
+    /// The path between two arrays, by edge numbers.
+    fn path(&self, start: u16, goal: u16) -> Vec<usize> {
+        let measures = self.measures(goal);
+        let mut place = start;
+        let mut path = Vec::new();
+        while place != goal {
+            let left = measures[usize::from(place)];
+            let mut nearer = self.steps().filter(|(_, edge, near, far)| {
+                *near == place && self.over(edge, measures[usize::from(*far)]) == left
+            });
+            let highest = self.rule == Rule::HighestEdge;
+            let step = if highest { nearer.next_back() } else { nearer.next() };
+            let (number, _, _, far) = step.expect("a least walk has a first edge");
+            path.push(number);
+            place = far;
+        }
+        path
+    }
 }
 
 #[cfg(test)]

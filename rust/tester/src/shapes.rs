@@ -17,11 +17,13 @@ pub struct Shape {
     /// How often, in percent, a field names the newest array.
     newest: usize,
     fields: usize,
+    /// How often, in percent, an index or a written value is no read.
+    plain: usize,
     /// Whether to go on until every series is full.
     full: bool,
 }
 
-pub const SHAPES: [Shape; 8] = [
+pub const SHAPES: [Shape; 10] = [
     Shape::of("chains of writes", [4, 0, 1, 12, 0, 8, 0], 6, 80, 40),
     Shape::of("meshes of equalities", [2, 0, 8, 2, 0, 4, 12], 3, 10, 60),
     Shape::of("conditionals", [2, 4, 4, 1, 12, 6, 2], 4, 30, 50),
@@ -29,6 +31,8 @@ pub const SHAPES: [Shape; 8] = [
     Shape::of("mixed", [4, 2, 2, 6, 4, 8, 4], 8, 40, 120),
     Shape::of("values of any size", [4, 2, 2, 6, 4, 8, 4], 0, 40, 60),
     Shape::of("few fields", [3, 1, 2, 3, 1, 5, 2], 3, 40, 12),
+    Shape { plain: 95, ..Shape::of("plain indices", [6, 1, 1, 10, 2, 12, 2], 6, 80, 120) },
+    Shape { plain: 95, ..Shape::of("few plain indices", [4, 1, 1, 4, 1, 8, 2], 3, 60, 30) },
     Shape { full: true, ..Shape::of("the largest sizes", [3, 2, 2, 4, 3, 8, 5], 12, 40, 400) },
 ];
 
@@ -40,7 +44,7 @@ impl Shape {
         newest: usize,
         fields: usize,
     ) -> Shape {
-        Shape { name, weights, values, newest, fields, full: false }
+        Shape { name, weights, values, newest, fields, plain: 0, full: false }
     }
 
     /// An accepted query of this shape.
@@ -112,9 +116,17 @@ impl Shape {
         }
     }
 
+    fn base(&self, random: &mut Random, builder: &Builder) -> u16 {
+        if random.chance(self.plain) {
+            *random.pick(&builder.plain)
+        } else {
+            builder.any_base(random)
+        }
+    }
+
     fn add_read(&self, random: &mut Random, builder: &mut Builder, wrong: usize) {
         let array = self.array(random, builder);
-        let index = builder.any_base(random);
+        let index = self.base(random, builder);
         if random.chance(wrong) {
             builder.read_as(array, index, self.value(random));
         } else {
@@ -137,7 +149,7 @@ impl Shape {
                 builder.conditional(boolean, branches.0, branches.1);
             }
             _ => {
-                let (index, value) = (builder.any_base(random), builder.any_base(random));
+                let (index, value) = (self.base(random, builder), self.base(random, builder));
                 builder.write(array, index, value);
             }
         }

@@ -111,7 +111,9 @@ fn without_runs(request: &Request, length: usize) -> Vec<Request> {
     about(request, queries)
 }
 
-/// Each field in turn with one of its numbers less: 0, half, or one less.
+/// Each field in turn with one of its numbers less: 0, half, or one less. A
+/// fixed number may become a free term: where the answers still differ, that it
+/// was fixed did not matter.
 fn lessened(request: &Request) -> Vec<Request> {
     if request.query.len() > LONG {
         return Vec::new();
@@ -130,14 +132,12 @@ fn lessened(request: &Request) -> Vec<Request> {
 
 fn lesser_fields(field: &Field) -> Vec<Field> {
     let mut lesser = Vec::new();
-    if let Field::Base { value } | Field::Read { value, .. } = *field {
-        for less in [0, 1, value / 2, value.saturating_sub(1)] {
-            let mut changed = *field;
-            if let Field::Base { value } | Field::Read { value, .. } = &mut changed {
-                *value = less;
-            }
-            lesser.push(changed);
-        }
+    if let Field::Fixed { value } = *field {
+        lesser.push(Field::Base { value });
+    }
+    if let Some(value) = field.value() {
+        let values = [0, 1, value / 2, value.saturating_sub(1)];
+        lesser.extend(values.map(|less| field.with_value(less)));
     }
     let names = field.clone().names().len();
     for place in 0..names {

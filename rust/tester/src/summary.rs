@@ -2,6 +2,7 @@
 //! each verdict and refusal was expected, and the largest answers seen.
 
 use crate::compare::Comparison;
+use crate::constants::freed;
 use crate::request::Question;
 use second::Checked;
 use std::collections::BTreeMap;
@@ -19,6 +20,10 @@ pub struct Summary {
     lemma_bytes: usize,
     numbers: usize,
     cells: usize,
+    /// How many queries have a fixed number, and how many lemmas leave out a
+    /// comparison for it.
+    fixed: usize,
+    left_out: usize,
 }
 
 impl Summary {
@@ -49,6 +54,8 @@ impl Summary {
 
     fn add_query(&mut self, query: &[u8], expected: &str) {
         self.queries += 1;
+        let free = freed(query);
+        self.fixed += usize::from(free != query);
         match second::check(query, usize::MAX) {
             Checked::Refused(_) => {}
             Checked::Consistent { pairs } => {
@@ -58,6 +65,8 @@ impl Summary {
             Checked::Conflict { pairs, lemma } => {
                 self.conflict_pairs = self.conflict_pairs.max(pairs);
                 self.lemma_bytes = self.lemma_bytes.max(lemma.len());
+                let whole = second::check(&free, usize::MAX);
+                self.left_out += usize::from(whole != Checked::Conflict { pairs, lemma });
                 self.literals = self.literals.max(expected.lines().count() - 1);
             }
         }
@@ -74,6 +83,11 @@ pub fn cells_of_one_array(lines: &str) -> usize {
 impl fmt::Display for Summary {
     fn fmt(&self, out: &mut fmt::Formatter) -> fmt::Result {
         writeln!(out, "{} queries, {} answers", self.queries, self.answers)?;
+        writeln!(
+            out,
+            "  {} with fixed numbers, for which {} lemmas leave out a comparison",
+            self.fixed, self.left_out
+        )?;
         for (outcome, count) in &self.outcomes {
             writeln!(out, "  {outcome:<12} {count}")?;
         }

@@ -51,6 +51,28 @@ pub fn many_ways(random: &mut Random) -> Vec<u8> {
     encode(&builder.fields)
 }
 
+/// Two arrays, each written at one index and then a few times elsewhere, and
+/// taken to be equal although the two values differ: the sources in conflict
+/// are the writes, whose values are plain terms.
+pub fn written_apart(random: &mut Random) -> Vec<u8> {
+    let mut builder = Builder::default();
+    let witness_index = builder.base(2);
+    let indices = [builder.base(INDEX), builder.base(INDEX)];
+    let write_indices = [3, 4, 5].map(|value| builder.base(value));
+    let mut tops = Vec::new();
+    for value in [6, 7] {
+        let value = builder.base(value);
+        let beneath = builder.variable(Memory::all(0));
+        let mut top = builder.write(beneath, *random.pick(&indices), value);
+        for _ in 0..random.below(4) {
+            top = builder.write(top, *random.pick(&write_indices), value);
+        }
+        tops.push(top);
+    }
+    builder.equality(tops[0], tops[1], true, witness_index);
+    encode(&builder.fields)
+}
+
 fn near(random: &mut Random, builder: &Builder) -> u16 {
     let count = builder.arrays.len();
     (count - 1 - random.below(count.min(NEAR))) as u16
@@ -59,6 +81,7 @@ fn near(random: &mut Random, builder: &Builder) -> u16 {
 #[cfg(test)]
 mod tests {
     use super::*;
+    use crate::constants::{with_fixed, with_indices_fixed};
     use crate::rules::{byte_count, lemma_by, Rule};
     use second::verdict_lines;
 
@@ -75,10 +98,29 @@ mod tests {
 
     #[test]
     fn every_wrong_rule_shows_in_many() {
+        let right = |query: &[u8]| lemma_by(Rule::FewestWrites, query);
         for rule in [Rule::FewestEdges, Rule::EdgesBeforeWrites, Rule::HighestEdge] {
-            let right = |query: &[u8]| lemma_by(Rule::FewestWrites, query);
             let shown = how_many(|query| lemma_by(rule, query) != right(query));
             assert!(shown > 30, "{rule:?}: {shown}");
+        }
+        let rule = Rule::FewestComparisons;
+        assert_eq!(how_many(|query| lemma_by(rule, query) != right(query)), 0);
+        let fixed = how_many(|query| {
+            let query = with_indices_fixed(query);
+            lemma_by(rule, &query) != right(&query)
+        });
+        assert!(fixed > 30, "{rule:?}: {fixed}");
+    }
+
+    #[test]
+    fn two_writes_in_conflict_keep_their_conclusion() {
+        for seed in 0..100 {
+            let query = written_apart(&mut Random::new(seed));
+            let (free, fixed) = (verdict_lines(&query), with_fixed(&query, |_, _| true));
+            assert!(free.starts_with("conflict") && free.ends_with("then 6 7\n"), "{free}");
+            let (first, _) = free.split_once('\n').expect("a line");
+            let expected = format!("{first}\ntrue 0\nthen 6 7\n");
+            assert_eq!(verdict_lines(&fixed), expected, "seed {seed}");
         }
     }
 

@@ -13,13 +13,16 @@ fn run(name: &str, arguments: &[&str]) -> Output {
 }
 
 fn shows_no_difference_and_every_bound(name: &str, product: &[&str]) {
-    let output = run(name, &[&["--seed", "3", "--count", "200"], product].concat());
+    let output = run(name, &[&["--seed", "3", "--count", "300"], product].concat());
     let text = String::from_utf8_lossy(&output.stdout);
     assert!(output.status.success(), "{text}");
-    assert!(text.ends_with("\n200 queries compared, no difference\n"), "{text}");
+    assert!(text.ends_with("\n300 queries compared, no difference\n"), "{text}");
     let bounds = "14496 consistent, 14496 in conflict; longest lemma: 49 literals, 343 bytes; \
                   longest run: 12625 numbers; most cells of one array: 256";
     assert!(text.contains(bounds), "{text}");
+    let fixed = text.lines().find(|line| line.contains(" with fixed numbers")).expect("a line");
+    let counts: Vec<usize> = fixed.split(' ').filter_map(|word| word.parse().ok()).collect();
+    assert!(counts.len() == 2 && counts[0] > 100 && counts[1] > 5, "{fixed}");
     for number in 1..=12 {
         assert!(text.contains(&format!("refused {number:>2} ")), "{number}: {text}");
     }
@@ -40,8 +43,8 @@ fn the_exhaustive_run_counts_its_queries() {
     let output = run("exhaustive", &["--exhaustive", "4"]);
     let text = String::from_utf8_lossy(&output.stdout);
     assert!(output.status.success(), "{text}");
-    assert!(text.starts_with("all 1265 queries of at most 4 fields, 16 in conflict"), "{text}");
-    assert!(text.ends_with(" calls compared\n2915 queries compared, no difference\n"), "{text}");
+    assert!(text.starts_with("all 3929 queries of at most 4 fields, 32 in conflict"), "{text}");
+    assert!(text.ends_with(" calls compared\n7673 queries compared, no difference\n"), "{text}");
 }
 
 #[test]
