@@ -1,4 +1,4 @@
-"""The fields of a query (01, The query), each as bytes."""
+"""The fields of a query (01, The query; 02, E1), each as bytes."""
 
 
 def field(tag, value):
@@ -35,3 +35,7 @@ def read(array, index, value=0):
 
 def equality(left, right, truth, left_witness, right_witness):
     return field(7, numbers(left, right) + bytes([truth]) + numbers(left_witness, right_witness))
+
+
+def fixed(value=0):
+    return field(8, value.to_bytes(4, "big"))

@@ -1,5 +1,6 @@
 #!/usr/bin/env python3
-"""Makes the known queries of 01 (K1 to K12), some on which path is chosen, and a few at 01's bounds, with what the three programs print.
+"""Makes the known queries of 01 (K1 to K12), some on which path is chosen, some with fixed numbers, and a few at 01's bounds, with what the
+three programs print.
 
   tests/known.py           write tests/known/, examples/, and what the programs' crates are run on
   tests/known.py --check   exit 1 where what stands there is something else
@@ -18,7 +19,7 @@ import os
 import sys
 
 import fields
-from fields import base, boolean, conditional, equality, variable
+from fields import base, boolean, conditional, equality, fixed, variable
 
 HERE = os.path.dirname(os.path.abspath(__file__))
 KNOWN = os.path.join(HERE, "known")
@@ -37,7 +38,7 @@ def read(value, array, index):
 
 def clauses(fields, literals):
     """01, The clauses: what the clause program prints for a lemma."""
-    bases = sum(one[0] in (1, 6) for one in fields)
+    bases = sum(one[0] in (1, 6, 8) for one in fields)
     booleans = sum(one[0] in (2, 7) for one in fields)
 
     def bit(term, k):
@@ -90,8 +91,8 @@ def known(name, fields, verdict, head=None, lookups=()):
 
 
 # --- the known queries, as 01 has them
-def k1(first=7, second=9):
-    return [base(5), base(5), variable(), read(first, 0, 0), read(second, 0, 1)]
+def k1(first=7, second=9, indices=(base, base)):
+    return [indices[0](5), indices[1](5), variable(), read(first, 0, 0), read(second, 0, 1)]
 
 
 known("K1", k1(), ["conflict 2", "eq 0 1", "then 2 3"], "p cnf 161 129", [(0, 5, "refused 12 0"), (1, 5, "refused 12 0")])
@@ -100,16 +101,16 @@ known("K2", k1(7, 7), ["consistent 2", "0 5 7"], None, [(0, 5, "7"), (0, 6, "0")
 known("K3", [base(5), variable(), read(7, 0, 0), read(9, 0, 0)], ["conflict 2", "then 1 2"], "p cnf 97 65")
 
 
-def k4(second):
-    return [base(1), base(second), base(30), variable(), write(2, 1, 0), read(8, 1, 0), read(9, 0, 0)]
+def k4(second, index=base):
+    return [index(1), index(second), base(30), variable(), write(2, 1, 0), read(8, 1, 0), read(9, 0, 0)]
 
 
 known("K4", k4(2), ["conflict 5", "ne 0 1", "then 3 4"])
 known("K5", k4(1), ["conflict 3", "eq 1 0", "then 2 3"])
 
 
-def k6(truth, last):
-    fields = [base(value) for value in (3, 4, 5, 10, 11, 6)]
+def k6(truth, last, number=base):
+    fields = [number(value) for value in (3, 4, 5, 10, 11, 6)]
     fields += [variable(), variable(), write(3, 0, 0), write(4, 1, 1)]
     fields += [read(20, 0, 2), read(21, 1, 2), read(0, 2, 5), read(last, 3, 5)]
     return fields + [equality(2, 3, truth, 8, 9)]
@@ -133,9 +134,12 @@ K12 = [base(0), base(4294967295), variable(), read(1, 0, 0), read(2, 0, 1)]
 known("K12", K12, ["consistent 2", "0 0 1", "0 4294967295 2"], None, [(0, 0, "1"), (0, 4294967295, "2"), (0, 4294967294, "0")])
 
 # --- every kind of literal in one lemma. The write reaches A1, A2 and A3, each of the reads all four arrays: 3 + 8 pairs.
-MIXED = [base(1), base(1), base(2), boolean(1), boolean(0), variable(), write(2, 2, 0)]
-MIXED += [conditional(0, 1, 0), conditional(1, 0, 2), read(5, 0, 0), read(6, 3, 1)]
-known("mixed", MIXED, ["conflict 11", "eq 0 1", "ne 0 2", "true 0", "false 1", "then 3 4"])
+def mixed(number=base):
+    fields = [number(1), number(1), base(2), boolean(1), boolean(0), variable(), write(2, 2, 0)]
+    return fields + [conditional(0, 1, 0), conditional(1, 0, 2), read(5, 0, 0), read(6, 3, 1)]
+
+
+known("mixed", mixed(), ["conflict 11", "eq 0 1", "ne 0 2", "true 0", "false 1", "then 3 4"])
 
 # --- which path (02, E6): the fewest write edges, and among those the fewest edges; at each step the lowest-numbered edge on such a path.
 # All reads in these are at b0, which is 1, and no write is. So where nothing else is said every source reaches every array, a write those
@@ -146,9 +150,13 @@ BESIDE = [base(1), base(2), base(30), variable(), write(2, 1, 0), read(8, 1, 0),
 known("beside-a-write", BESIDE, ["conflict 6", "true 0", "then 3 4"], "p cnf 162 65")
 
 # Two equalities around a write: 4 sources and 3 arrays. The lemma has 17 bytes; that of the write would have 14.
-AROUND = [base(1), base(2), base(30), variable(), variable(), write(2, 1, 0), read(8, 2, 0), read(9, 0, 0), read(8, 1, 0)]
-AROUND += [equality(2, 1, 1, 3, 5), equality(1, 0, 1, 5, 4)]
-known("around-a-write", AROUND, ["conflict 12", "true 0", "true 1", "then 3 4"], "p cnf 195 65")
+def around(index=base):
+    fields = [index(1), index(2), base(30), variable(), variable(), write(2, 1, 0), read(8, 2, 0), read(9, 0, 0), read(8, 1, 0)]
+    return fields + [equality(2, 1, 1, 3, 5), equality(1, 0, 1, 5, 4)]
+
+
+AROUND_LINES = ["conflict 12", "true 0", "true 1", "then 3 4"]
+known("around-a-write", around(), AROUND_LINES, "p cnf 195 65")
 
 # A conditional and an equality around a write: 4 sources and 3 arrays.
 CHOSEN = [boolean(1), base(1), base(2), base(30), variable(), write(2, 1, 0), conditional(0, 1, 0)]
@@ -188,12 +196,15 @@ known("longest-detour", DETOUR, DETOUR_LINES, "p cnf 1744 129")
 
 # --- at the bounds. A chain of 48 arrays: 47 writes at indices 100 to 146, and a read at index 1 of each end. Each read reaches all 48
 # arrays; a write reaches those from itself upward, as its own edge is closed to it. The lemma has 49 literals, the clauses 12,625 numbers.
-CHAIN = [base(1), base(1)] + [base(100 + n) for n in range(47)] + [variable()]
-CHAIN += [write(2 + n, 2 + n, n) for n in range(47)] + [read(5, 0, 0), read(6, 47, 1)]
+def chain(first=base, others=base):
+    fields = [first(1), others(1)] + [others(100 + n) for n in range(47)] + [variable()]
+    return fields + [write(2 + n, 2 + n, n) for n in range(47)] + [read(5, 0, 0), read(6, 47, 1)]
+
+
 CHAIN_PAIRS = 2 * 48 + sum(range(1, 48))
 CHAIN_LINES = [f"conflict {CHAIN_PAIRS}", "eq 0 1"] + [f"ne 0 {2 + n}" for n in range(47)] + ["then 49 50"]
-known("longest", CHAIN, CHAIN_LINES, "p cnf 1712 3137")
-assert len(CHAIN_LINES) == 1 + 49 and sum(len(line.split()) for line in clauses(CHAIN, CHAIN_LINES[1:])[1:]) == 12625
+known("longest", chain(), CHAIN_LINES, "p cnf 1712 3137")
+assert len(CHAIN_LINES) == 1 + 49 and sum(len(line.split()) for line in clauses(chain(), CHAIN_LINES[1:])[1:]) == 12625
 
 
 # Every source reaches every array: 47 writes and 255 reads at one index, the arrays joined by true equalities, so 48 times 302 pairs.
@@ -224,6 +235,35 @@ known("most-cells", MOST_CELLS, ["consistent 511"] + CELLS, None, CELL_LOOKUPS)
 LAST_SOURCE = [base(0), variable()] + [read(7, 0, 0)] * 255 + [write(1, 0, n) for n in range(46)] + [write(1, 1, 46)]
 LAST_LOOKUPS = [(0, 0, "7"), (46, 7, "0"), (47, 0, "7"), (47, 7, "7"), (47, 1, "0"), (48, 0, "refused 11 0")]
 known("last-source", LAST_SOURCE, ["consistent 303"] + [f"{array} 0 7" for array in range(48)] + ["47 7 7"], None, LAST_LOOKUPS)
+
+# --- fixed numbers (02, E1): of two fixed numbers neither "equal" nor "differ" stands in the lemma; a conclusion always does. What else is
+# printed is what the query has with free terms in their place.
+known("fixed-index", k1(indices=(fixed, fixed)), ["conflict 2", "then 2 3"], "p cnf 129 65", [(0, 5, "refused 12 0")])
+known("fixed-and-free", k1(indices=(fixed, base)), ["conflict 2", "eq 0 1", "then 2 3"], "p cnf 161 129")
+known("free-and-fixed", k1(indices=(base, fixed)), ["conflict 2", "eq 0 1", "then 2 3"], "p cnf 161 129")
+known("fixed-consistent", k1(7, 7, (fixed, fixed)), ["consistent 2", "0 5 7"], None, [(0, 5, "7"), (0, 6, "0"), (1, 5, "refused 11 0")])
+known("fixed-write", k4(2, fixed), ["conflict 5", "then 3 4"], "p cnf 161 65")
+known("fixed-K6", k6(1, 0, fixed), ["conflict 22", "true 0", "then 6 7"], "p cnf 322 65")
+known("fixed-mixed", mixed(fixed), ["conflict 11", "ne 0 2", "true 0", "false 1", "then 3 4"], "p cnf 164 129")
+
+# Two writes of different fixed values at one fixed index, taken to be equal: the two writes and a read of each reach both of them.
+VALUES = [fixed(5), fixed(7), fixed(9), variable(), write(1, 0, 0), write(2, 0, 0), read(7, 1, 0), read(9, 2, 0), equality(1, 2, 1, 3, 4)]
+known("fixed-values", VALUES, ["conflict 8", "true 0", "then 1 2"], "p cnf 162 65")
+
+# A write whose literal would be left out is a write of the path all the same, so that two equalities go around it.
+known("fixed-around", around(fixed), AROUND_LINES, "p cnf 195 65")
+
+# The longest path: of fixed numbers alone the conclusion is left; where the first source's index is free all 49 literals stay.
+known("fixed-longest", chain(fixed, fixed), [CHAIN_LINES[0], CHAIN_LINES[-1]], "p cnf 1633 65")
+known("fixed-but-one", chain(base, fixed), CHAIN_LINES, "p cnf 1712 3137")
+
+# Refused as tag 01 is; and it is no read, so no witness.
+known("fixed-length", [bytes.fromhex("080003000000")], ["refused 4 0"], None, [(0, 0, "refused 4 0")])
+known("fixed-cut", [bytes.fromhex("08000400")], ["refused 2 0"], None, [(0, 0, "refused 2 0")])
+known("fixed-256", [fixed(n) for n in range(256)], ["consistent 0"], None, [(0, 0, "refused 11 0")])
+known("fixed-257", [fixed(n) for n in range(257)], ["refused 5 1792"], None, [(0, 0, "refused 5 1792")])
+WITNESS = [fixed(7), variable(), variable(), read(7, 0, 0), read(7, 1, 0), equality(0, 1, 1, 0, 2)]
+known("fixed-witness", WITNESS, ["refused 8 35"], None, [(0, 7, "refused 8 35")])
 
 # --- what rt runs the programs on
 RUNS = {

@@ -1,5 +1,5 @@
 #!/usr/bin/env python3
-"""Makes the queries of the crate `refusals` and the answers that 01 fixes for them.
+"""Makes the queries of the crate `refusals` and the answers that 01 and 02 (E1) fix for them.
 
   tests/refusals.py           write crates/refusals/stdin and stdout
   tests/refusals.py --check   exit 1 where what stands there is something else
@@ -10,7 +10,7 @@ stands in stdin behind its length, two bytes, and has one line in stdout.
 import os
 import sys
 
-from fields import base, boolean, conditional, equality, read, variable, write
+from fields import base, boolean, conditional, equality, fixed, read, variable, write
 
 HERE = os.path.join(os.path.dirname(os.path.abspath(__file__)), "..", "crates", "refusals")
 
@@ -38,11 +38,11 @@ whole(b"", "accepted")
 for tag in (0, 1, 3, 7, 8, 9, 255):  # one or two bytes of a head are 2, also where the tag is unknown
     whole(bytes([tag]), "refused 2 0")
     whole(bytes([tag, 0]), "refused 2 0")
-for tag in (0, 8, 9, 0x21, 0x41, 255):  # an unknown tag is 3, also where its value runs past the end
+for tag in (0, 9, 0x21, 0x41, 255):  # an unknown tag is 3, also where its value runs past the end
     whole(bytes([tag, 0, 0]), "refused 3 0")
     whole(bytes([tag, 0, 5]), "refused 3 0")
     whole(bytes([tag, 255, 255]), "refused 3 0")
-OWN = {1: 4, 2: 1, 3: 0, 4: 6, 5: 6, 6: 8, 7: 9}
+OWN = {1: 4, 2: 1, 3: 0, 4: 6, 5: 6, 6: 8, 7: 9, 8: 4}
 for tag, own in OWN.items():
     for length in (own - 1, own + 1, own + 256):  # a wrong length is 4, also where it runs past the end, or the terms are not given
         if length >= 0:
@@ -56,6 +56,8 @@ case(ARRAYS + [bytes([3, 0, 1, 0])], 4)
 case(ARRAYS + [bytes([4, 0, 6, 0])], 2)
 case(BASES + [bytes([1, 0, 5, 0, 0, 0, 0, 0])], 4)
 case(BASES + [bytes([1, 0, 4, 0])], 2)
+case(BASES + [bytes([8, 0, 5, 0, 0, 0, 0, 0])], 4)
+case(BASES + [bytes([8, 0, 4, 0])], 2)
 case(BOOLEANS + [bytes([2, 0, 2, 0, 0])], 4)
 case(BOOLEANS + [bytes([2, 0, 1])], 2)
 
@@ -63,6 +65,7 @@ case(BOOLEANS + [bytes([2, 0, 1])], 2)
 case(ARRAYS + [write(99, 99, 99)], 5)
 case(ARRAYS + [conditional(0, 0, 0)], 5)
 case(BASES + [read(0, 0)], 5)
+case(BASES + [fixed()], 5)
 case(BOOLEANS + [boolean(2)], 5)
 case(BOOLEANS + [equality(0, 0, 2, 0, 0)], 5)
 WITNESSES = [base(1), base(1), variable(), variable(), read(0, 0, 7), read(1, 0, 7), read(1, 0, 8), read(1, 1, 8), read(0, 0, 7)]
@@ -111,6 +114,8 @@ for truth in (0, 1):
     case(WITNESSES + [equality(0, 1, truth, 2, 6)], 8)
     case(WITNESSES + [equality(1, 0, truth, 2, 3)], 8)
     case(WITNESSES + [equality(0, 1, truth, 2, 5)], 8)  # index terms 0 and 1 have equal values and different numbers
+    case(WITNESSES + [fixed(7), equality(0, 1, truth, 7, 3)], 8)  # a fixed number is no read, also of the other witness's value
+    case(WITNESSES + [fixed(8), equality(0, 1, truth, 2, 7)], 8)
 
 # 9: equal values under truth 0, one read for both sides included; other values, or truth 1, are accepted
 case(WITNESSES + [equality(0, 1, 0, 2, 3)], 9)
@@ -134,6 +139,12 @@ case(ARRAYS, "accepted")
 case(ARRAYS + [variable()], 5)
 case(BASES, "accepted")
 case(BASES + [base()], 5)
+case([fixed()] * 256, "accepted")
+case([fixed()] * 257, 5)
+case([fixed()] * 128 + [base()] * 128, "accepted")
+case([fixed()] * 128 + [base()] * 129, 5)
+case([fixed(), variable()] + [read(0, 0) for _ in range(255)], "accepted")
+case([fixed(), variable()] + [read(0, 0) for _ in range(255)] + [fixed()], 5)
 case(BOOLEANS, "accepted")
 case(BOOLEANS + [boolean()], 5)
 case([base(), variable()] + [read(0, 0) for _ in range(255)], "accepted")
