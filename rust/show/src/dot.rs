@@ -1,6 +1,7 @@
 //! The graph of a query in Graphviz's language: array terms, and edges with
 //! their numbers and guards. Closed edges are dashed; of a conflict the path
-//! is bold, and the two sources hang at their origins.
+//! is bold, gray where its literal is left out of the lemma, and the two sources
+//! hang at their origins.
 
 use crate::graph::{Edge, Graph, Guard};
 use crate::path::Path;
@@ -48,13 +49,14 @@ fn statements(graph: &Graph, title: &str, path: Option<&Path>) -> String {
 fn edge_statement(graph: &Graph, number: usize, edge: &Edge, path: Option<&Path>) -> String {
     let [one, other] = edge.ends;
     let guard = match edge.guard {
-        Guard::Differs(index) => {
-            format!("index differs from base {index} = {}", graph.values[index])
-        }
+        Guard::Differs(index) => format!("index differs from {}", graph.base_and_value(index)),
         Guard::True(boolean) => format!("Boolean {boolean} is true"),
         Guard::False(boolean) => format!("Boolean {boolean} is false"),
     };
     let style = match path {
+        Some(path) if path.edges.contains(&number) && path.leaves_out(graph, edge) => {
+            ", style=bold, penwidth=3, color=gray"
+        }
         Some(path) if path.edges.contains(&number) => ", style=bold, penwidth=3",
         _ if is_closed(graph, edge, path) => ", style=dashed",
         _ => "",
@@ -74,12 +76,11 @@ fn is_closed(graph: &Graph, edge: &Edge, path: Option<&Path>) -> bool {
 
 fn source_statements(graph: &Graph, name: &str, number: usize) -> String {
     let source = graph.sources[number];
-    let (origin, index, value) = (source.origin, source.index, source.value);
-    let (at, assigned) = (graph.index_value(number), graph.source_value(number));
+    let [value, index] = [source.value, source.index].map(|base| graph.base_and_value(base));
     let kind = if source.is_write { "write" } else { "read" };
     format!(
         "  {name} [shape=ellipse, style=bold, label=\"{name} source: {kind}\\n\
-         base {value} = {assigned} at base {index} = {at}\"];\n  \
-         {name} -- array{origin} [dir=forward];\n"
+         {value} at {index}\"];\n  {name} -- array{} [dir=forward];\n",
+        source.origin
     )
 }

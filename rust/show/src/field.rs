@@ -7,7 +7,7 @@ pub const HEAD_BYTES: usize = 3;
 pub const GROUPED_WIDTH: usize = 30;
 
 /// A field with its own parts. Numbers are those of terms, except `value` and
-/// `truth` where they are assigned.
+/// `truth` where they are assigned, or fixed.
 #[derive(Clone, Copy, Debug, PartialEq, Eq)]
 pub enum Field {
     Base { value: usize },
@@ -17,6 +17,7 @@ pub enum Field {
     Conditional { boolean: usize, if_true: usize, if_false: usize },
     Read { array: usize, index: usize, value: usize },
     Equality { left: usize, right: usize, truth: usize, left_witness: usize, right_witness: usize },
+    Fixed { value: usize },
 }
 
 /// The three series of term numbers.
@@ -30,7 +31,7 @@ pub enum Series {
 /// How many bytes each part of the tag's value has.
 fn widths(tag: u8) -> Option<&'static [usize]> {
     Some(match tag {
-        1 => &[4],
+        1 | 8 => &[4],
         2 => &[1],
         3 => &[],
         4 | 5 => &[2, 2, 2],
@@ -66,6 +67,7 @@ impl Field {
             (7, &[left, right, truth, left_witness, right_witness]) => {
                 Field::Equality { left, right, truth, left_witness, right_witness }
             }
+            (8, &[value]) => Field::Fixed { value },
             _ => return None,
         })
     }
@@ -73,7 +75,7 @@ impl Field {
     /// The series whose next term the field gives.
     pub fn gives(self) -> Series {
         match self {
-            Field::Base { .. } | Field::Read { .. } => Series::Base,
+            Field::Base { .. } | Field::Read { .. } | Field::Fixed { .. } => Series::Base,
             Field::Boolean { .. } | Field::Equality { .. } => Series::Boolean,
             Field::Variable | Field::Write { .. } | Field::Conditional { .. } => Series::Array,
         }
@@ -83,6 +85,7 @@ impl Field {
     pub fn words(self, number: usize) -> String {
         match self {
             Field::Base { value } => format!("base {number} = {value}"),
+            Field::Fixed { value } => format!("base {number} = {value}, fixed"),
             Field::Boolean { truth } => format!("Boolean {number} is {}", truth_word(truth)),
             Field::Variable => format!("array {number}"),
             Field::Write { array, index, value } => {

@@ -58,11 +58,13 @@ impl Distance {
     }
 }
 
-/// The terms' values and truths, the array terms in words, sources and edges
-/// by number, and the branches that no conditional chooses.
+/// The terms' values and truths, which base terms are fixed, the array terms in
+/// words, sources and edges by number, and the branches that no conditional
+/// chooses.
 #[derive(Debug, Default)]
 pub struct Graph {
     pub values: Vec<usize>,
+    pub fixed: Vec<bool>,
     pub truths: Vec<bool>,
     pub arrays: Vec<String>,
     pub sources: Vec<Source>,
@@ -83,7 +85,10 @@ impl Graph {
     /// The field's value or truth, or its array in words.
     fn give(&mut self, number: usize, field: Field) {
         match field {
-            Field::Base { value } | Field::Read { value, .. } => self.values.push(value),
+            Field::Base { value } | Field::Read { value, .. } | Field::Fixed { value } => {
+                self.values.push(value);
+                self.fixed.push(matches!(field, Field::Fixed { .. }));
+            }
             Field::Boolean { truth } | Field::Equality { truth, .. } => {
                 self.truths.push(truth == 1)
             }
@@ -112,8 +117,18 @@ impl Graph {
             Field::Equality { left, right, .. } => {
                 self.edges.push(Edge { ends: [left, right], guard: Guard::True(number) });
             }
-            Field::Base { .. } | Field::Boolean { .. } | Field::Variable => {}
+            Field::Base { .. } | Field::Fixed { .. } | Field::Boolean { .. } | Field::Variable => {}
         }
+    }
+
+    /// The base term in words, in which a fixed number is told.
+    pub fn base(&self, number: usize) -> String {
+        format!("base {number}{}", if self.fixed[number] { " (fixed)" } else { "" })
+    }
+
+    /// The same with its value.
+    pub fn base_and_value(&self, number: usize) -> String {
+        format!("{} = {}", self.base(number), self.values[number])
     }
 
     pub fn index_value(&self, source: usize) -> usize {

@@ -1,9 +1,10 @@
 //! The two sources of a lemma and the path between them. The lemma's literals
-//! do not name them: two sources may share their terms, and a repeated literal
-//! stands once. So both are searched for again as 01 and 02 (E6) say, and are
-//! shown only if they spell the lemma that the library gave.
+//! do not name them: two sources may share their terms, a repeated literal
+//! stands once, and one between fixed numbers does not at all. So both are
+//! searched for again as 01 and 02 (E1, E6) say, and are shown only if they
+//! spell the lemma that the library gave.
 
-use crate::graph::{Graph, Guard};
+use crate::graph::{Edge, Graph, Guard};
 use zunidelo::{Lemma, Literal};
 
 /// The sources by number, and the edges of the path from the first one's
@@ -21,27 +22,56 @@ impl Path {
         let (first, later) = least_pair(graph)?;
         let edges = fewest_writes(graph, first, later)?;
         let path = Path { first, later, edges };
-        (path.literals(graph) == lemma.literals).then_some(path)
+        let (_, stay) = path.literals(graph);
+        (stay == lemma.literals).then_some(path)
     }
 
-    fn literals(&self, graph: &Graph) -> Vec<Literal> {
+    /// The literals that are left out of the lemma.
+    pub fn left_out(&self, graph: &Graph) -> Vec<Literal> {
+        self.literals(graph).0
+    }
+
+    /// Those that are left out, and those that stay.
+    fn literals(&self, graph: &Graph) -> (Vec<Literal>, Vec<Literal>) {
         let (from, to) = (graph.sources[self.first], graph.sources[self.later]);
         let mut literals = Vec::new();
         if from.index != to.index {
             literals.push(Literal::Equal { first: from.index, later: to.index });
         }
         for edge in &self.edges {
-            let literal = match graph.edges[*edge].guard {
-                Guard::Differs(write) => Literal::Differ { first: from.index, write },
-                Guard::True(boolean) => Literal::True { boolean },
-                Guard::False(boolean) => Literal::False { boolean },
-            };
+            let literal = self.edge_literal(graph, &graph.edges[*edge]);
             if !literals.contains(&literal) {
                 literals.push(literal);
             }
         }
         literals.push(Literal::Conclusion { first: from.value, later: to.value });
-        literals
+        literals.into_iter().partition(|literal| compares_fixed(graph, literal))
+    }
+
+    /// The literal of an edge on the path.
+    fn edge_literal(&self, graph: &Graph, edge: &Edge) -> Literal {
+        match edge.guard {
+            Guard::Differs(write) => {
+                Literal::Differ { first: graph.sources[self.first].index, write }
+            }
+            Guard::True(boolean) => Literal::True { boolean },
+            Guard::False(boolean) => Literal::False { boolean },
+        }
+    }
+
+    /// Whether the literal of an edge on the path is left out.
+    pub fn leaves_out(&self, graph: &Graph, edge: &Edge) -> bool {
+        compares_fixed(graph, &self.edge_literal(graph, edge))
+    }
+}
+
+/// "An 'equal' or 'differ' between two fixed numbers is left out of the lemma"
+fn compares_fixed(graph: &Graph, literal: &Literal) -> bool {
+    match *literal {
+        Literal::Equal { first, later: other } | Literal::Differ { first, write: other } => {
+            graph.fixed[first] && graph.fixed[other]
+        }
+        _ => false,
     }
 }
 

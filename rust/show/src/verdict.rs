@@ -1,7 +1,8 @@
 //! The verdict in words: how many pairs and cells, with what the cells hold,
-//! or the lemma, one literal a line.
+//! or the lemma, one literal a line, and what is left out of it.
 
 use crate::graph::Graph;
+use crate::path::Path;
 use std::fmt::Write;
 use zunidelo::{lookup, Lemma, Literal, Verdict};
 
@@ -36,32 +37,40 @@ fn cell(query: &[u8], array: usize, index: usize) -> String {
 }
 
 fn conflict(graph: &Graph, pairs: usize, lemma: &Lemma) -> String {
-    let mut text = format!("conflict: no memories fit. {}. The lemma:\n", counted(pairs, "pair"));
+    let mut lines = Vec::new();
     for (place, literal) in lemma.literals.iter().enumerate() {
-        writeln!(text, "    {}", literal_words(*literal, place == 0)).expect("text takes any line");
+        let link = match literal {
+            Literal::Conclusion { .. } if place == 0 => "always",
+            Literal::Conclusion { .. } => "then",
+            _ if place == 0 => "if",
+            _ => "and",
+        };
+        lines.push(format!("{link} {}", literal_words(*literal, |base| graph.base(base))));
     }
     if let Some(Literal::Conclusion { first, later }) = lemma.literals.last() {
-        let (one, other) = (graph.values[*first], graph.values[*later]);
-        writeln!(text, "    but base {first} = {one} and base {later} = {other}")
-            .expect("text takes any line");
+        let [one, other] = [first, later].map(|base| graph.base_and_value(*base));
+        lines.push(format!("but {one} and {other}"));
     }
-    text
+    let left_out = Path::of(graph, lemma).map_or(vec![], |path| path.left_out(graph));
+    for literal in left_out {
+        let words = literal_words(literal, |base| format!("base {base}"));
+        lines.push(format!("left out, as both are fixed: {words}"));
+    }
+    let lines: String = lines.into_iter().map(|line| format!("    {line}\n")).collect();
+    format!("conflict: no memories fit. {}. The lemma:\n{lines}", counted(pairs, "pair"))
 }
 
-/// The literal after its linking word; a conclusion may stand alone.
-fn literal_words(literal: Literal, is_first: bool) -> String {
-    let link = if is_first { "if" } else { "and" };
+/// What the literal says, with a name for each base term.
+fn literal_words(literal: Literal, base: impl Fn(usize) -> String) -> String {
     match literal {
-        Literal::Equal { first, later } => format!("{link} base {first} = base {later}"),
+        Literal::Equal { first, later } | Literal::Conclusion { first, later } => {
+            format!("{} = {}", base(first), base(later))
+        }
         Literal::Differ { first, write } => {
-            format!("{link} base {first} differs from base {write}")
+            format!("{} differs from {}", base(first), base(write))
         }
-        Literal::True { boolean } => format!("{link} Boolean {boolean} is true"),
-        Literal::False { boolean } => format!("{link} Boolean {boolean} is false"),
-        Literal::Conclusion { first, later } if is_first => {
-            format!("always base {first} = base {later}")
-        }
-        Literal::Conclusion { first, later } => format!("then base {first} = base {later}"),
+        Literal::True { boolean } => format!("Boolean {boolean} is true"),
+        Literal::False { boolean } => format!("Boolean {boolean} is false"),
     }
 }
 

@@ -69,6 +69,28 @@ fn the_path_goes_around_a_write_by_two_equalities() {
 }
 
 #[test]
+fn fixed_numbers_are_told_and_writes_without_a_literal_are_gray() {
+    let graph = dot(&stored::query("fixed-K6"));
+    for (ends, base) in
+        [("array2 -- array0", "base 0 (fixed) = 3"), ("array3 -- array1", "base 1 (fixed) = 4")]
+    {
+        let gray = format!("index differs from {base}\", style=bold, penwidth=3, color=gray];");
+        assert!(line(&graph, ends).ends_with(&gray), "{graph}");
+    }
+    let across = line(&graph, "array2 -- array3");
+    assert!(across.ends_with("Boolean 0 is true\", style=bold, penwidth=3];"), "{graph}");
+    assert!(graph.contains("base 6 = 20 at base 2 (fixed) = 5"), "{graph}");
+}
+
+#[test]
+fn a_write_at_a_free_index_is_not_gray() {
+    let graph = dot(&stored::query("fixed-mixed"));
+    let write = line(&graph, "array1 -- array0");
+    assert!(write.ends_with("base 2 = 2\", style=bold, penwidth=3];"), "{graph}");
+    assert!(!graph.contains("gray"), "{graph}");
+}
+
+#[test]
 fn a_refused_query_shows_what_comes_before_the_fault() {
     let graph = dot(&stored::query("K7"));
     assert!(graph.starts_with("graph query {\n  label=\"refused 9 at byte 110: an equality"));
@@ -84,5 +106,8 @@ fn every_lemma_of_the_stored_queries_has_its_path() {
             conflicts += 1;
         }
     }
-    assert!(conflicts >= 15, "K1, K3, K4, K5, K6, K9, and nine on which path is chosen");
+    assert!(
+        conflicts >= 25,
+        "six of K1 to K9, nine on which path is chosen, ten with fixed numbers"
+    );
 }

@@ -92,6 +92,53 @@ conflict: no memories fit. 11 pairs. The lemma:
 }
 
 #[test]
+fn a_fixed_number_is_told_and_what_is_left_out_for_it() {
+    let text = show(&stored::query("fixed-mixed"));
+    assert!(
+        text.starts_with("    0  08 0004 00000001                base 0 = 1, fixed\n"),
+        "{text}"
+    );
+    assert!(text.contains("   14  01 0004 00000002                base 2 = 2\n"), "{text}");
+    let expected = "\
+conflict: no memories fit. 11 pairs. The lemma:
+    if base 0 (fixed) differs from base 2
+    and Boolean 0 is true
+    and Boolean 1 is false
+    then base 3 = base 4
+    but base 3 = 5 and base 4 = 6
+    left out, as both are fixed: base 0 = base 1
+";
+    assert!(text.ends_with(expected), "{text}");
+    let text = show(&stored::query("fixed-K6"));
+    let expected = "\
+    if Boolean 0 is true
+    then base 6 = base 7
+    but base 6 = 20 and base 7 = 21
+    left out, as both are fixed: base 2 differs from base 0
+    left out, as both are fixed: base 2 differs from base 1
+";
+    assert!(text.ends_with(expected), "{text}");
+}
+
+#[test]
+fn a_conclusion_between_fixed_numbers_stays() {
+    let text = show(&stored::query("fixed-values"));
+    let expected = "\
+    if Boolean 0 is true
+    then base 1 (fixed) = base 2 (fixed)
+    but base 1 (fixed) = 7 and base 2 (fixed) = 9
+";
+    assert!(text.ends_with(expected), "{text}");
+}
+
+#[test]
+fn nothing_is_left_out_where_one_number_is_free() {
+    for name in ["fixed-and-free", "free-and-fixed", "fixed-around", "fixed-but-one"] {
+        assert!(!show(&stored::query(name)).contains("left out"), "{name}");
+    }
+}
+
+#[test]
 fn a_conclusion_without_conditions_is_always_so() {
     let text = show(&stored::query("K3"));
     assert!(text.ends_with("    always base 1 = base 2\n    but base 1 = 7 and base 2 = 9\n"));
