@@ -3,6 +3,7 @@
 
 use crate::lemma::{Lemma, Literal};
 use judge::field::{Field, Series};
+use judge::graph::fixed_bases;
 use judge::tiny::base_values;
 use std::collections::BTreeSet;
 use std::fmt::Write;
@@ -45,9 +46,10 @@ fn bit(base: usize, bit: usize) -> String {
     format!("(= ((_ extract {bit} {bit}) b{base}) #b1)")
 }
 
-/// The clauses in the DIMACS format, with the guess as unit clauses if asked.
+/// The clauses in the DIMACS format, with unit clauses for what is known: the
+/// bits of fixed numbers or, if asked, the whole guess.
 pub fn formula(fields: &[Field], clauses: &Clauses, with_guess: bool) -> String {
-    let units = if with_guess { guess(fields) } else { Vec::new() };
+    let units = if with_guess { guess(fields) } else { fixed_bits(fields) };
     let count = clauses.clauses.len() + units.len();
     let mut text = format!("p cnf {} {count}\n", clauses.variables);
     for clause in clauses.clauses.iter().chain(&units) {
@@ -73,6 +75,13 @@ fn guess(fields: &[Field]) -> Vec<Vec<i32>> {
         vec![if truth { variable } else { -variable }]
     };
     bits.chain(truths).enumerate().map(signed).collect()
+}
+
+/// The unit clauses of the guess that are about fixed numbers.
+fn fixed_bits(fields: &[Field]) -> Vec<Vec<i32>> {
+    let fixed = fixed_bases(fields).into_iter().flat_map(|fixed| [fixed; WIDTH]);
+    let units = guess(fields).into_iter().zip(fixed);
+    units.filter(|unit| unit.1).map(|unit| unit.0).collect()
 }
 
 /// Says of each variable x1, x2 and so on of the clauses what it means. Fresh
@@ -143,6 +152,16 @@ mod tests {
         assert_eq!(units.len(), 2 * WIDTH + 1);
         let positive: Vec<i32> = units.into_iter().flatten().filter(|unit| *unit > 0).collect();
         assert_eq!(positive, [1, 3, 64]);
+    }
+
+    #[test]
+    fn a_fixed_number_is_a_unit_clause_for_each_bit_without_the_guess() {
+        let fields = [&FIELDS[..], &[Field::Fixed { value: 6 }]].concat();
+        let units: Vec<i32> = fixed_bits(&fields).into_iter().flatten().collect();
+        assert_eq!(units.len(), WIDTH);
+        assert_eq!(units[..4], [-65, 66, 67, -68]);
+        let clauses = Clauses { variables: 97, clauses: vec![] };
+        assert!(formula(&fields, &clauses, false).starts_with("p cnf 97 32\n-65 0\n66 0\n"));
     }
 
     #[test]

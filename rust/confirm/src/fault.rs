@@ -2,8 +2,12 @@
 //! Each is named by what goes wrong.
 
 use crate::answers::Answers;
+use crate::lemma::Literal;
 use crate::questions::Kind;
+use judge::field::{decode, encode, Field};
+use judge::graph::fixed_bases;
 use judge::random::Random;
+use tester::constants::freed;
 
 #[derive(Clone, Copy, Debug, PartialEq, Eq)]
 pub enum Fault {
@@ -17,9 +21,13 @@ pub enum Fault {
     SignTurned,
     CellWrong,
     CellFilled,
+    /// The solvers are not told what fixed numbers are.
+    FixedTakenAsFree,
+    /// A comparison of a fixed number with another term is left out.
+    LeftOutByOne,
 }
 
-pub const FAULTS: [Fault; 10] = [
+pub const FAULTS: [Fault; 12] = [
     Fault::VerdictFlipped,
     Fault::LiteralDropped,
     Fault::LiteralTurned,
@@ -30,6 +38,8 @@ pub const FAULTS: [Fault; 10] = [
     Fault::SignTurned,
     Fault::CellWrong,
     Fault::CellFilled,
+    Fault::FixedTakenAsFree,
+    Fault::LeftOutByOne,
 ];
 
 impl Fault {
@@ -37,7 +47,10 @@ impl Fault {
     pub fn found_by(self) -> &'static [Kind] {
         match self {
             Fault::VerdictFlipped => &[Kind::GuessFits, Kind::GuessRuledOut],
-            Fault::LiteralDropped | Fault::ConclusionFlipped => &[Kind::LemmaHolds],
+            Fault::LiteralDropped
+            | Fault::ConclusionFlipped
+            | Fault::FixedTakenAsFree
+            | Fault::LeftOutByOne => &[Kind::LemmaHolds],
             Fault::LiteralTurned => &[Kind::LemmaFailsGuess],
             Fault::ClauseDropped => &[Kind::ClausesFailGuess, Kind::ClausesSayLemma],
             Fault::ClauseAdded => &[Kind::LemmaSaysClauses],
@@ -58,6 +71,8 @@ impl Fault {
                 self.put_in_lemma(random, &mut answers)?;
             }
             Fault::CellWrong | Fault::CellFilled => self.put_in_model(random, &mut answers)?,
+            Fault::FixedTakenAsFree => free_all(&mut answers)?,
+            Fault::LeftOutByOne => leave_out_by_one(&mut answers)?,
             _ => self.put_in_clauses(random, &mut answers)?,
         }
         Some(answers)
@@ -120,4 +135,20 @@ impl Fault {
         }
         Some(())
     }
+}
+
+fn free_all(answers: &mut Answers) -> Option<()> {
+    let free: Vec<Field> = decode(&freed(&encode(&answers.fields))).0;
+    (free != answers.fields).then(|| answers.fields = free)
+}
+
+fn leave_out_by_one(answers: &mut Answers) -> Option<()> {
+    let fixed = fixed_bases(&answers.fields);
+    let premise = &mut answers.lemma.as_mut()?.premise;
+    let before = premise.len();
+    premise.retain(|literal| match *literal {
+        Literal::Equal(one, other) | Literal::Differ(one, other) => !fixed[one] && !fixed[other],
+        Literal::True(_) | Literal::False(_) => true,
+    });
+    (premise.len() < before).then_some(())
 }

@@ -45,6 +45,7 @@ fn sort(field: &Field) -> &'static str {
 fn definition(field: &Field) -> Option<String> {
     match *field {
         Field::Base { .. } | Field::Boolean { .. } | Field::Variable => None,
+        Field::Fixed { value } => Some(constant(value)),
         Field::Write { array, index, value } => Some(format!("(store a{array} b{index} b{value})")),
         Field::Conditional { boolean, if_true, if_false } => {
             Some(format!("(ite m{boolean} a{if_true} a{if_false})"))
@@ -63,27 +64,35 @@ pub fn terms(fields: &[Field]) -> String {
         let (name, sort) = (given.name(field), sort(field));
         let line = match definition(field) {
             None => format!("(declare-const {name} {sort})"),
-            Some(definition) => format!("(define-fun {name} () {sort} {definition})"),
+            Some(definition) => define(&name, sort, &definition),
         };
         writeln!(script, "{line}").expect("a string takes any text");
     }
     script
 }
 
-/// Base terms and Booleans alone, all of them free: what clauses are about.
+/// Base terms and Booleans alone, all of them free but for fixed numbers: what
+/// clauses are about.
 pub fn free_terms(fields: &[Field]) -> String {
     let mut given = Given::default();
     let mut script = String::new();
     for field in fields {
         let (name, sort) = (given.name(field), sort(field));
-        if field.gives() != Series::Array {
-            writeln!(script, "(declare-const {name} {sort})").expect("a string takes any text");
-        }
+        let line = match *field {
+            Field::Fixed { value } => define(&name, sort, &constant(value)),
+            _ if field.gives() == Series::Array => continue,
+            _ => format!("(declare-const {name} {sort})"),
+        };
+        writeln!(script, "{line}").expect("a string takes any text");
     }
     script
 }
 
-/// Every assigned value and truth.
+fn define(name: &str, sort: &str, definition: &str) -> String {
+    format!("(define-fun {name} () {sort} {definition})")
+}
+
+/// Every assigned value and truth. A fixed number has its value by definition.
 pub fn guess(fields: &[Field]) -> String {
     let mut given = Given::default();
     let mut script = String::new();
@@ -117,7 +126,7 @@ pub fn memory(cells: &[(u32, u32)]) -> String {
 mod tests {
     use super::*;
 
-    const FIELDS: [Field; 7] = [
+    const FIELDS: [Field; 8] = [
         Field::Base { value: 5 },
         Field::Boolean { truth: 1 },
         Field::Variable,
@@ -125,6 +134,7 @@ mod tests {
         Field::Conditional { boolean: 0, if_true: 1, if_false: 0 },
         Field::Read { array: 2, index: 0, value: 7 },
         Field::Equality { left: 2, right: 2, truth: 0, left_witness: 1, right_witness: 1 },
+        Field::Fixed { value: 9 },
     ];
 
     #[test]
@@ -138,6 +148,20 @@ mod tests {
             "(define-fun a2 () Array (ite m0 a1 a0))",
             "(define-fun b1 () Value (select a2 b0))",
             "(define-fun m1 () Bool (= a2 a2))",
+            "(define-fun b2 () Value #x00000009)",
+        ];
+        assert_eq!(script.lines().collect::<Vec<_>>(), lines);
+    }
+
+    #[test]
+    fn without_arrays_all_terms_are_free_but_for_fixed_numbers() {
+        let script = free_terms(&FIELDS).replace(VALUE, "Value");
+        let lines = [
+            "(declare-const b0 Value)",
+            "(declare-const m0 Bool)",
+            "(declare-const b1 Value)",
+            "(declare-const m1 Bool)",
+            "(define-fun b2 () Value #x00000009)",
         ];
         assert_eq!(script.lines().collect::<Vec<_>>(), lines);
     }
