@@ -65,6 +65,10 @@
  *     11  lookup: no such array term in the query, or an index of 2^32 or more
  *     12  lookup on a query in conflict; clauses for a consistent query
  *
+ * FIXED NUMBERS. A base term of tag 01 is free and its value a guess; one of tag 08, with a value of 4 bytes as well, is a constant: it has
+ * this value in every memory. A lemma compares no two fixed numbers, which would cost 64 clauses each time; between a fixed number and
+ * another term a comparison stays, and so does every conclusion. A fixed number is refused as tag 01 is, and it is no read, so no witness.
+ *
  * FORMAT of a query, of the lemma and of the clauses, and what a loop of guesses owes: docs/FORMAT.md.
  *
  * STACK. A call needs at most ZUNIDELO_STACK_BYTES of stack, below the frame of its caller. This is measured, not proved: on x86-64, with

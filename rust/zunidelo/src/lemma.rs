@@ -7,6 +7,10 @@ use std::fmt;
 /// under its values: where all literals but the last are true, so is the last.
 /// Its path between the two sources has the fewest writes, each of which costs
 /// a comparison, and among those the fewest edges.
+///
+/// A comparison of two fixed numbers, [`Literal::Equal`] or [`Literal::Differ`],
+/// is left out, as no interpretation decides it otherwise; between a fixed
+/// number and another term it stays, and so does the conclusion always.
 #[derive(Debug, Clone, PartialEq, Eq, Hash)]
 pub struct Lemma {
     /// The literals in order; the last one, and no other, is the conclusion.

@@ -1,7 +1,8 @@
 //! Zunidelo from Rust: is there any memory that fits a guess?
 //!
 //! A query is a run of bytes that gives array terms (variables, writes,
-//! conditionals, reads, equalities) and a guessed value for each read. This
+//! conditionals, reads, equalities), a guessed value for each read, and fixed
+//! numbers, which have their value whatever is guessed. This
 //! crate is a thin, safe cover over the library's three functions, which are
 //! proved to meet their contracts:
 //!
@@ -44,6 +45,28 @@
 //! *query.last_mut().unwrap() = 7;
 //! assert_eq!(check(&query)?, Verdict::Consistent { pairs: 2 });
 //! assert_eq!(lookup(&query, 0, 5)?, 7);
+//! # Ok::<(), Refusal>(())
+//! ```
+//!
+//! # Constants
+//!
+//! A base term of tag 01 is free. One of tag 08 is a fixed number: its value is
+//! the same in every interpretation, and no lemma compares two of them, which
+//! would cost 64 clauses. With both indices of the example fixed:
+//!
+//! ```
+//! use zunidelo::{check, clauses, Refusal, Verdict};
+//!
+//! let query = [
+//!     0x08, 0, 4, 0, 0, 0, 5, // base 0 is 5
+//!     0x08, 0, 4, 0, 0, 0, 5, // base 1 is 5
+//!     0x03, 0, 0, // array 0
+//!     0x06, 0, 8, 0, 0, 0, 0, 0, 0, 0, 7, // base 2 = 7: array 0 at base 0
+//!     0x06, 0, 8, 0, 0, 0, 1, 0, 0, 0, 9, // base 3 = 9: array 0 at base 1
+//! ];
+//! let Verdict::Conflict { lemma, .. } = check(&query)? else { panic!("no memory fits") };
+//! assert_eq!(lemma.to_string(), "then 2 3\n");
+//! assert!(clauses(&query)?.to_string().starts_with("p cnf 129 65\n"));
 //! # Ok::<(), Refusal>(())
 //! ```
 

@@ -15,7 +15,7 @@ pub enum Refusal {
         /// Where the field begins.
         offset: usize,
     },
-    /// 3: the tag is none of 01 to 07.
+    /// 3: the tag is none of 01 to 08.
     UnknownTag {
         /// Where the field begins.
         offset: usize,

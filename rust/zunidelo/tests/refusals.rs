@@ -36,9 +36,11 @@ fn a_field_at_fault_is_named_by_its_offset() {
     let offset = OFFSET;
     let faults = [
         (vec![0x03, 0], 2, Refusal::CutOff { offset }),
-        (vec![0x08, 0, 0], 3, Refusal::UnknownTag { offset }),
+        (vec![0x7F, 0, 0], 3, Refusal::UnknownTag { offset }),
         (vec![0x03, 0, 1], 4, Refusal::WrongLength { offset }),
+        (vec![0x08, 0, 0], 4, Refusal::WrongLength { offset }),
         (vec![0x01, 0, 4, 0], 2, Refusal::CutOff { offset }),
+        (vec![0x08, 0, 4, 0], 2, Refusal::CutOff { offset }),
         (equality(1, 1, 3), 6, Refusal::TermNotGiven { offset }),
         (equality(2, 1, 2), 7, Refusal::NoTruth { offset }),
         (equality(1, 0, 2), 8, Refusal::WrongWitness { offset }),
@@ -59,6 +61,16 @@ fn the_forty_ninth_array_is_one_too_many() {
     assert_eq!(refusal, Refusal::TooManyTerms { offset: 144 });
     assert_eq!((refusal.number(), refusal.offset()), (5, 144));
     assert_eq!(refusal.to_string(), "refused 5 at byte 144: one term too many of its series");
+}
+
+#[test]
+fn a_fixed_number_is_no_witness() {
+    let fixed = [0x08, 0, 4, 0, 0, 0, 7];
+    let offset = OFFSET + fixed.len();
+    for (left, right) in [(3, 2), (1, 3), (3, 3)] {
+        let query = [conflict(), fixed.to_vec(), equality(1, left, right)].concat();
+        assert_eq!(check(&query), Err(Refusal::WrongWitness { offset }), "{left} {right}");
+    }
 }
 
 #[test]

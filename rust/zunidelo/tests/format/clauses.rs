@@ -153,7 +153,7 @@ fn made(lemma: &[(String, Vec<usize>)], mut numbering: Numbering) -> Vec<Vec<i32
 fn counts(query: &[u8]) -> (usize, usize) {
     let (mut bases, mut booleans, mut rest) = (0, 0, query);
     while let [tag, _, length, ..] = rest {
-        bases += usize::from(matches!(tag, 1 | 6));
+        bases += usize::from(matches!(tag, 1 | 6 | 8));
         booleans += usize::from(matches!(tag, 2 | 7));
         rest = &rest[3 + usize::from(*length)..];
     }

@@ -1,7 +1,7 @@
 //! Fields with a fault, by the words of the page's table of refusals: each
 //! alone, and two faults in one field.
 
-use crate::fields::{base, boolean, equality, front, read, variable, write, GIVEN};
+use crate::fields::{base, boolean, equality, fixed, front, read, variable, write, GIVEN};
 
 /// A field at fault, and what must stand before it.
 #[derive(Clone)]
@@ -32,9 +32,10 @@ fn given(series: usize) -> usize {
 }
 
 /// The front, and base term 4, a read that conflicts with base term 2; base
-/// term 5, a read that has the value of base term 2 at another index term.
+/// term 5, a read that has the value of base term 2 at another index term; base
+/// term 6, a fixed number of that value.
 pub fn in_conflict() -> Vec<u8> {
-    [front(), read(0, 0, 8), read(1, 1, 7)].concat()
+    [front(), read(0, 0, 8), read(1, 1, 7), fixed(7)].concat()
 }
 
 /// The field without its last byte.
@@ -74,9 +75,10 @@ pub fn alone(when: &str) -> Option<Fault> {
 }
 
 /// The three ways to meet 8, and what all of them come from.
-pub fn wrong_witnesses() -> [Vec<u8>; 4] {
+pub fn wrong_witnesses() -> [Vec<u8>; 5] {
     [
         equality([0, 1], 1, [0, 3]),
+        equality([0, 1], 1, [6, 3]),
         equality([0, 1], 1, [2, 0]),
         equality([0, 1], 1, [2, 4]),
         equality([0, 1], 1, [2, 5]),

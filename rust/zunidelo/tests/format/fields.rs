@@ -116,6 +116,10 @@ pub fn equality(sides: [u32; 2], truth: u32, witnesses: [u32; 2]) -> Vec<u8> {
     ])
 }
 
+pub fn fixed(value: u32) -> Vec<u8> {
+    row("fixed number").bytes(&[("value", value)])
+}
+
 /// Base terms 0, 1 and Boolean 0; array terms 0 and 1 with a read of each, base
 /// terms 2 and 3: what every kind of field can name.
 pub fn front() -> Vec<u8> {

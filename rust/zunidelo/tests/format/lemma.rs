@@ -1,7 +1,7 @@
 //! The table of the lemma's fields: the library's bytes are what its rows make
 //! of the printed literals.
 
-use crate::fields::Series;
+use crate::fields::{base, conditional, fixed, front, read, write, Series};
 use crate::page;
 use crate::stored;
 use zunidelo::{check, check_into, Checked, Verdict, LEMMA_BYTES};
@@ -138,4 +138,40 @@ fn each_literal_says_what_the_row_says() {
         });
         assert!(named, "the parts of {word}");
     }
+}
+
+/// The lemma's lines on a read at one term and another of what is written above
+/// it, at a second term of the same value, and at a third of another value.
+fn lines(terms: [Vec<u8>; 3]) -> String {
+    let index = |place: u32| 4 + place;
+    let arrays = [write(0, index(2), 0), conditional(0, 2, 1)].concat();
+    let reads = [read(0, index(0), 1), read(3, index(1), 2)].concat();
+    let query = [front(), terms.concat(), arrays, reads].concat();
+    let Ok(Verdict::Conflict { lemma, .. }) = check(&query) else { panic!("a conflict") };
+    lemma.to_string()
+}
+
+/// "An `eq` or `ne` between two fixed numbers is left out": no other is.
+#[test]
+fn comparisons_of_two_fixed_numbers_are_left_out() {
+    let prose = page::section("The lemma").prose();
+    assert!(prose.contains("An `eq` or `ne` between two fixed numbers is left out"), "{prose}");
+    for kinds in 0..8 {
+        let is_fixed = |place: usize| kinds >> place & 1 == 1;
+        let term =
+            |place: usize, value: u32| if is_fixed(place) { fixed(value) } else { base(value) };
+        let eq = if is_fixed(0) && is_fixed(1) { "" } else { "eq 4 5\n" };
+        let ne = if is_fixed(0) && is_fixed(2) { "" } else { "ne 4 6\n" };
+        let expected = format!("{eq}{ne}true 0\nthen 7 8\n");
+        assert_eq!(lines([term(0, 90), term(1, 90), term(2, 91)]), expected, "{kinds:03b}");
+    }
+}
+
+/// "`then` always stays": also between two fixed numbers.
+#[test]
+fn a_conclusion_between_two_fixed_numbers_stays() {
+    let query = stored::query("fixed-values");
+    let last = literals(&query).pop();
+    assert_eq!(last, Some(("then".to_string(), vec![1, 2])));
+    assert!([7, 14].iter().all(|offset| query[*offset] == 8), "base terms 1 and 2 are fixed");
 }

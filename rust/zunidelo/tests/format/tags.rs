@@ -2,8 +2,8 @@
 //! no other length and no other tag, and gives a term of the series it says.
 
 use crate::fields::{
-    base, boolean, conditional, equality, front, read, row, rows, variable, write, Row, Series,
-    GIVEN,
+    base, boolean, conditional, equality, fixed, front, read, row, rows, variable, write, Row,
+    Series, GIVEN,
 };
 use zunidelo::{check, lookup, Refusal};
 
@@ -17,6 +17,7 @@ pub fn examples() -> Vec<(Row, Vec<u8>)> {
         ("conditional", conditional(0, 0, 1)),
         ("read", read(0, 1, 8)),
         ("equality", equality([0, 1], 0, [2, 3])),
+        ("fixed number", fixed(9)),
     ];
     assert_eq!(rows().len(), fields.len(), "a field of each row is tried");
     fields.into_iter().map(|(field, bytes)| (row(field), bytes)).collect()
@@ -104,6 +105,8 @@ fn the_parts_mean_what_the_row_says() {
     assert_eq!(cell(conditional(0, 1, 0), 2), Ok(0x0A0B_0C0D));
     let written = [front(), write(1, 1, 0)].concat();
     assert_eq!(lookup(&written, 2, 0x0102_0304), Ok(5));
+    let written = [front(), fixed(0x0506_0708), write(1, 4, 4)].concat();
+    assert_eq!(lookup(&written, 2, 0x0506_0708), Ok(0x0506_0708));
 }
 
 /// The left witness is a read of the left array, and the right one of the

@@ -4,7 +4,7 @@
 use crate::problem::{Atom, Problem, WIDTH};
 use crate::renumber::renumber;
 use crate::solver::{Solver, Truths};
-use judge::field::{encode, Field};
+use judge::field::{encode, Field, Series};
 use judge::interpretation::Interpretation;
 use zunidelo::clauses;
 
@@ -65,17 +65,17 @@ impl<'a> Caller<'a> {
     /// The solver numbers the terms as they come, not as the library does.
     fn number_terms(&mut self) {
         for place in 0..self.fields.len() {
-            match self.fields[place] {
-                Field::Base { .. } | Field::Read { .. } => {
+            match self.fields[place].gives() {
+                Series::Base => {
                     let bits = std::array::from_fn(|_| self.variable());
                     self.bits.push(bits);
                     bits[WIDTH as usize..].iter().for_each(|bit| self.solver.add(vec![-bit]));
                 }
-                Field::Boolean { .. } | Field::Equality { .. } => {
+                Series::Boolean => {
                     let boolean = self.variable();
                     self.booleans.push(boolean);
                 }
-                _ => {}
+                Series::Array => {}
             }
         }
     }
@@ -86,8 +86,8 @@ impl<'a> Caller<'a> {
             return;
         }
         let witnesses: Vec<usize> = others.iter().flat_map(|one| one.witnesses).collect();
-        let bases = |field: &&mut Field| matches!(field, Field::Base { .. } | Field::Read { .. });
-        for (base, field) in self.fields.iter_mut().filter(bases).enumerate() {
+        let bases = self.fields.iter_mut().filter(|field| field.gives() == Series::Base);
+        for (base, field) in bases.enumerate() {
             if let Field::Read { index, .. } = field {
                 if witnesses.contains(&base) {
                     *index = first.index as u16;
@@ -161,8 +161,9 @@ impl<'a> Caller<'a> {
         let mut fields = self.fields.clone();
         for field in &mut fields {
             match field {
-                Field::Base { value } | Field::Read { value, .. } => {
-                    *value = values.next().expect("a value for each base term");
+                field if field.gives() == Series::Base => {
+                    let value = values.next().expect("a value for each base term");
+                    *field = field.with_value(value);
                 }
                 Field::Boolean { truth } | Field::Equality { truth, .. } => {
                     *truth = guessed.next().expect("a truth for each Boolean");

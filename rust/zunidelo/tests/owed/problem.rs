@@ -2,7 +2,7 @@
 //! and over Booleans. Every value is below 4, so that the truth can be found
 //! by trying all arrays.
 
-use judge::field::Field;
+use judge::field::{Field, Series};
 use judge::interpretation::{free_bits, Interpretation};
 use judge::random::Random;
 
@@ -31,7 +31,7 @@ pub struct Problem {
     /// The terms; their assigned values and truths are not yet guessed.
     pub fields: Vec<Field>,
     pub equalities: Vec<Equality>,
-    /// Base terms that are known.
+    /// Base terms that are known, as fixed numbers or as free terms.
     pub constants: Vec<(usize, u32)>,
     /// Clauses of atoms, each with the truth that it is to have.
     pub constraints: Vec<Vec<(Atom, bool)>>,
@@ -71,13 +71,11 @@ impl Problem {
     }
 
     fn push(&mut self, field: Field) {
-        self.bases += usize::from(matches!(field, Field::Base { .. } | Field::Read { .. }));
-        self.booleans +=
-            usize::from(matches!(field, Field::Boolean { .. } | Field::Equality { .. }));
-        self.arrays += usize::from(matches!(
-            field,
-            Field::Variable | Field::Write { .. } | Field::Conditional { .. }
-        ));
+        match field.gives() {
+            Series::Base => self.bases += 1,
+            Series::Boolean => self.booleans += 1,
+            Series::Array => self.arrays += 1,
+        }
         self.fields.push(field);
     }
 
@@ -128,21 +126,20 @@ impl Problem {
         self.equalities.iter().any(|one| one.index == base || one.witnesses.contains(&base))
     }
 
+    /// Some free terms are constants, and most of those fixed numbers.
     fn fix_some(&mut self, random: &mut Random) {
-        for (base, field) in self.base_fields() {
-            let free = matches!(field, Field::Base { .. }) && !self.serves_equality(base);
-            if free && random.chance(30) {
-                self.constants.push((base, random.below(1 << WIDTH) as u32));
+        let own: Vec<bool> = (0..self.bases).map(|base| !self.serves_equality(base)).collect();
+        let bases = self.fields.iter_mut().filter(|field| field.gives() == Series::Base);
+        for (base, field) in bases.enumerate() {
+            let free = matches!(field, Field::Base { .. }) && own[base];
+            if free && random.chance(40) {
+                let value = random.below(1 << WIDTH) as u32;
+                self.constants.push((base, value));
+                if random.chance(70) {
+                    *field = Field::Fixed { value };
+                }
             }
         }
-    }
-
-    fn base_fields(&self) -> Vec<(usize, Field)> {
-        let fields = self.fields.iter().copied();
-        fields
-            .filter(|field| matches!(field, Field::Base { .. } | Field::Read { .. }))
-            .enumerate()
-            .collect()
     }
 
     /// Clauses of two or three atoms. What serves an equality is in none.
@@ -178,7 +175,7 @@ impl Problem {
             let fixed = self.equalities.iter().any(|one| one.index == base)
                 && matches!(field, Field::Base { .. });
             free.push(if fixed { 0 } else { free_bits(&[*field], WIDTH) });
-            base += usize::from(matches!(field, Field::Base { .. } | Field::Read { .. }));
+            base += usize::from(field.gives() == Series::Base);
         }
         (0..1_u64 << free.iter().sum::<u32>()).any(|choice| self.is_met(&free, choice))
     }
