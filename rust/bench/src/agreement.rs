@@ -1,7 +1,8 @@
 //! Whether all contenders answer the same. The second program is held to that
 //! in everything. An earlier library may take another path in a conflict: then
 //! its lemma of the same pair may be another, and with it the clauses and what
-//! a buffer has room for, and nothing else.
+//! a buffer has room for, and nothing else. One that knows no fixed numbers
+//! must refuse each query that has one, and is compared on the others alone.
 
 use crate::contenders::{Contest, Question, CONFLICT, NO_ROOM, REFUSED};
 use crate::libraries::{Answer, Check, Function};
@@ -21,6 +22,8 @@ pub enum Alike {
     Whole,
     /// All but the lemma of a conflict.
     ButForTheLemma,
+    /// It refuses the query for its fixed numbers, which it does not know.
+    KnowsNoFixed,
     Not,
 }
 
@@ -39,7 +42,10 @@ pub fn assert_all_agree<C: Contest>(name: &str, question: &Question) -> Agreed {
     if library != second {
         fail("second program", &second);
     }
-    let earlier = C::BEFORE.map_or(Alike::Whole, |before| alike(C::TODAY, before, question));
+    let earlier = C::BEFORE.map_or(Alike::Whole, |before| match C::before(question) {
+        Some(before) => alike(C::TODAY, before, question),
+        None => refuses(before, question),
+    });
     if let (Alike::Not, Some(before)) = (earlier, C::BEFORE) {
         fail("earlier library", &asked(|question| before.library(question), question));
     }
@@ -48,14 +54,29 @@ pub fn assert_all_agree<C: Contest>(name: &str, question: &Question) -> Agreed {
 
 /// Where an earlier library is linked, a line on how often it answers alike.
 pub fn earlier_words<C: Contest>(what: &str, all: &[Alike]) -> String {
-    let others = all.iter().filter(|alike| **alike == Alike::ButForTheLemma).count();
-    match (C::BEFORE, others) {
-        (None, _) => String::new(),
-        (_, 0) => format!("the earlier library answers the same in all {} {what}\n", all.len()),
+    let count = |wanted: Alike| all.iter().filter(|alike| **alike == wanted).count();
+    let (others, unknown) = (count(Alike::ButForTheLemma), count(Alike::KnowsNoFixed));
+    let compared = all.len() - unknown;
+    let words = match (C::BEFORE, others) {
+        (None, _) => return String::new(),
+        (_, 0) => format!("the earlier library answers the same in all {compared} {what}"),
         (_, others) => format!(
-            "the earlier library has another lemma in {others} of {} {what}, and all else the same\n",
-            all.len()
+            "the earlier library has another lemma in {others} of {compared} {what}, and all else the same"
         ),
+    };
+    match unknown {
+        0 => format!("{words}\n"),
+        _ => format!(
+            "{words};\n{unknown} with fixed numbers it refuses, and they are not compared\n"
+        ),
+    }
+}
+
+/// How a library that knows no fixed numbers is to answer a query with one.
+fn refuses<C: Contest>(before: C, question: &Question) -> Alike {
+    match asked(|question| before.library(question), question) {
+        ((REFUSED, _), after) if after == *question => Alike::KnowsNoFixed,
+        _ => Alike::Not,
     }
 }
 

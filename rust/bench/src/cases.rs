@@ -116,7 +116,7 @@ fn stored_case<C: Measured>(name: String, query: &[u8]) -> Case {
 }
 
 /// Each stored query with its name.
-fn stored() -> Vec<(String, Vec<u8>)> {
+pub fn stored() -> Vec<(String, Vec<u8>)> {
     let mut queries = Vec::new();
     for entry in fs::read_dir(STORED).expect("the folder of stored queries") {
         let path = entry.expect("an entry of the folder").path();

@@ -1,13 +1,15 @@
 //! The classes of queries that are timed: three shapes at three sizes in both
 //! verdicts, queries in which every source reaches every array, with few index
 //! values and with one, queries whose lemma has as many literals as any, and
-//! queries in which equalities go around the writes.
+//! queries in which equalities go around the writes. Those with writes once
+//! more with their indices fixed, as customers have them.
 
 use judge::field::encode;
 use judge::random::Random;
 use second::MAX_ARRAYS;
 use tester::bounds::all_pairs;
 use tester::builder::Builder;
+use tester::constants::with_indices_fixed;
 use tester::memory::Memory;
 use tester::request::parse_hex;
 
@@ -25,7 +27,20 @@ pub struct Class {
     pub conflict: bool,
 }
 
+/// The shapes whose indices are fixed once more.
+const FIXED: [&str; 4] = ["chain", "mixed", "most literals", "ladder"];
+
 impl Class {
+    /// The same with its indices fixed, where that is a class.
+    fn with_indices_fixed(&self) -> Option<Class> {
+        let (shape, size) = self.name.split_once(", ")?;
+        FIXED.contains(&shape).then(|| Class {
+            name: format!("{shape}, fixed, {size}"),
+            query: with_indices_fixed(&self.query),
+            conflict: self.conflict,
+        })
+    }
+
     pub fn verdict(&self) -> &'static str {
         if self.conflict {
             "conflict"
@@ -88,6 +103,8 @@ pub fn classes() -> Vec<Class> {
             conflict,
         });
     }
+    let fixed: Vec<Class> = classes.iter().filter_map(Class::with_indices_fixed).collect();
+    classes.extend(fixed);
     classes
 }
 
@@ -225,6 +242,18 @@ mod tests {
         let checked = check(&most_literals(true), MAX_LEMMA_BYTES);
         let Checked::Conflict { lemma, .. } = checked else { panic!("{checked:?}") };
         assert_eq!(lemma.len(), MAX_LEMMA_BYTES);
+    }
+
+    #[test]
+    fn fixed_indices_leave_no_comparison() {
+        let mut fixed = 0;
+        for Class { name, query, .. } in classes().into_iter().filter(|class| class.conflict) {
+            let lines = second::verdict_lines(&query);
+            let compares = lines.contains("eq ") || lines.contains("ne ");
+            assert!(!name.contains("fixed") || !compares, "{name}: {lines}");
+            fixed += usize::from(name.contains("fixed"));
+        }
+        assert_eq!(fixed, 8);
     }
 
     #[test]

@@ -2,8 +2,9 @@
 //! same buffers out.
 
 use crate::libraries::{Answer, Check, Clauses, Function, Lookup, Report};
-use judge::field::{decode, Series};
+use judge::field::{decode, Field, Series};
 use std::ops::Range;
+use tester::mutate::raw_fields;
 use zunidelo::{CLAUSE_NUMBERS, LEMMA_BYTES};
 
 /// What the functions return, as the header numbers it.
@@ -18,6 +19,9 @@ pub const NO_SUCH_CELL: u64 = 11;
 
 /// The number by which an answer that is longer than its buffer is refused.
 pub const NO_ROOM: u64 = 10;
+
+/// The tag of a fixed number (02, E1).
+const FIXED_TAG: u8 = 8;
 
 /// What a buffer is filled with, so that a write of 0 is seen.
 const BYTE: u8 = 0xAA;
@@ -69,6 +73,11 @@ impl Question {
         self
     }
 
+    /// Whether a field of the query has the tag of a fixed number.
+    pub fn has_fixed(&self) -> bool {
+        raw_fields(&self.query).iter().any(|field| field.first() == Some(&FIXED_TAG))
+    }
+
     pub fn has_room_for(&self, written: &Written) -> bool {
         written.bytes <= self.answer.len() && written.numbers <= self.numbers.len()
     }
@@ -107,6 +116,18 @@ pub struct Written {
 pub trait Contest: Function {
     const NAME: &'static str;
 
+    /// The earlier library's, where one is linked that can be asked about this
+    /// query: one that knows no fixed numbers refuses each, and has nothing to
+    /// compare.
+    fn before(question: &Question) -> Option<Self> {
+        Self::BEFORE.filter(|_| Check::knows_fixed() || !question.has_fixed())
+    }
+
+    /// Today's, then the earlier one where it can be asked.
+    fn asked(question: &Question) -> impl Iterator<Item = Self> {
+        [Self::TODAY].into_iter().chain(Self::before(question))
+    }
+
     /// Which numbers of a report of a conflict are about the lemma.
     const OF_THE_LEMMA: Range<usize>;
 
@@ -118,6 +139,15 @@ pub trait Contest: Function {
 
     fn library(self, question: &mut Question) -> Answer;
     fn second(question: &mut Question) -> Answer;
+}
+
+impl Check {
+    /// Whether the earlier library, if one is linked, knows fixed numbers: it
+    /// accepts a query of one.
+    fn knows_fixed() -> bool {
+        let one = Question::about(&Field::Fixed { value: 0 }.bytes());
+        Check::BEFORE.is_some_and(|before| refused_by(before.library(&mut one.clone())).is_none())
+    }
 }
 
 impl Contest for Check {

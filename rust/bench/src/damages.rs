@@ -9,7 +9,7 @@ pub type Damage = (&'static str, u64, fn(&[u8]) -> Vec<u8>);
 pub const DAMAGES: [Damage; 9] = [
     ("with more than 4,096 bytes", 1, too_long),
     ("without its last byte", 2, |query| query[..query.len() - 1].to_vec()),
-    ("with an unknown tag", 3, |query| [query, &[0x08, 0, 0]].concat()),
+    ("with an unknown tag", 3, |query| [query, &[0x7F, 0, 0]].concat()),
     ("with a field of a wrong length", 4, |query| [query, &[0x03, 0, 1, 0]].concat()),
     ("with one array too many", 5, one_array_too_many),
     ("with a witness that is not given", 6, |query| with_equality(query, 1, Some(NOT_GIVEN))),

@@ -20,8 +20,9 @@ pub fn print() {
 }
 
 fn measure<C: Contest>(name: &str, query: &[u8]) {
-    assert_all_agree::<C>(name, &Question::about(query));
-    let times = in_turn(&libraries::<C>(), query);
+    let question = Question::about(query);
+    assert_all_agree::<C>(name, &question);
+    let times = in_turn(&libraries::<C>(&question), query);
     print_line(name, cell(&times[0]) + &before_columns::<C>(&times, query));
 }
 

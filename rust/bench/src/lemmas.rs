@@ -12,19 +12,21 @@ use tester::bounds::{all_pairs, longest_detour, longest_lemma, many_paths, Links
 use tester::cells::many_cells;
 use tester::rules::byte_count;
 use tester::shapes::SHAPES;
-use tester::ways::many_ways;
+use tester::ways::{many_ways, written_apart};
 
 /// Makes a query of a kind.
 type Generator = Box<dyn Fn(&mut Random) -> Vec<u8>>;
 
-/// The kinds of query that the tester draws, each with its name.
-fn kinds() -> Vec<(&'static str, Generator)> {
+/// The kinds of query that the tester draws, each with its name. None has fixed
+/// numbers, so that an earlier library can be asked about them all.
+pub fn kinds() -> Vec<(&'static str, Generator)> {
     let shaped =
         |place: usize| -> Generator { Box::new(move |random| SHAPES[place].query(random)) };
     let mut kinds: Vec<(&str, Generator)> =
         (0..SHAPES.len()).map(|place| (SHAPES[place].name, shaped(place))).collect();
     kinds.push(("many paths", Box::new(many_paths)));
     kinds.push(("many ways", Box::new(many_ways)));
+    kinds.push(("written apart", Box::new(written_apart)));
     kinds.push(("many cells", Box::new(|random| many_cells(random, true))));
     kinds.push(("all pairs", Box::new(|random| all_pairs(random, true))));
     kinds.push(("longest, writes", Box::new(|random| longest_lemma(random, Links::Writes))));
@@ -159,6 +161,14 @@ mod tests {
         for (name, query) in kinds() {
             let lines = |seed| verdict_lines(&query(&mut Random::new(seed)));
             assert!((0..100).any(|seed| lines(seed).starts_with("conflict")), "{name}");
+        }
+    }
+
+    #[test]
+    fn no_kind_has_fixed_numbers() {
+        for (name, query) in kinds() {
+            let has_fixed = |seed| Question::about(&query(&mut Random::new(seed))).has_fixed();
+            assert!(!(0..100).any(has_fixed), "{name}");
         }
     }
 }

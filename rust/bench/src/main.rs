@@ -3,7 +3,8 @@
 //! query, the stack that a call takes, and the least that a call costs. Nothing
 //! is asserted of a time; that all answer the same is. `bench stack LIMIT`
 //! measures the stack alone, and fails where a call takes more bytes than that.
-//! `bench lemmas SEED COUNT` tells what the lemmas of seeded queries cost.
+//! `bench lemmas SEED COUNT` tells what the lemmas of seeded queries cost, and
+//! what they cost with the indices fixed.
 
 mod agreement;
 mod cases;
@@ -11,6 +12,7 @@ mod classes;
 mod clock;
 mod contenders;
 mod damages;
+mod fixed;
 mod least;
 mod lemmas;
 mod libraries;
@@ -40,6 +42,7 @@ fn main() -> ExitCode {
         ["lemmas", seed, count] => {
             let number = |word: &str| word.parse().expect("SEED and COUNT are numbers");
             lemmas::print(number(seed), number(count));
+            fixed::print(number(seed), number(count));
             true
         }
         _ => {

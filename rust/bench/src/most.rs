@@ -17,7 +17,8 @@ pub struct Call {
     refused: Option<u64>,
     /// How the earlier library answers.
     earlier: Alike,
-    /// The bytes that it takes in today's library, then in the earlier one.
+    /// The bytes that it takes in today's library, then in the earlier one where
+    /// that can be asked.
     stacks: Vec<usize>,
 }
 
@@ -41,7 +42,10 @@ fn measure_one<C: Measured>(classes: &[Class]) -> Vec<Call> {
     let calls: Vec<Call> = cases::<C>(classes).iter().map(call::<C>).collect();
     let refusals: BTreeSet<u64> = calls.iter().filter_map(|call| call.refused).collect();
     assert!(refusals.iter().eq(C::REFUSALS), "{} refused by {refusals:?} alone", C::NAME);
-    let most = |library: usize| calls.iter().map(|call| call.stacks[library]).max().unwrap_or(0);
+    let most = |library: usize| {
+        let stacks = calls.iter().filter_map(|call| call.stacks.get(library));
+        stacks.max().copied().unwrap_or(0)
+    };
     let before = C::BEFORE.map_or(String::new(), |_| format!(", before {}", most(1)));
     println!("{:<10} {:>8}{before}", C::NAME, most(0));
     let earlier: Vec<Alike> = calls.iter().map(|call| call.earlier).collect();

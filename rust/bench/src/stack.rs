@@ -104,10 +104,11 @@ fn depth(call: &mut (dyn FnMut() + Send)) -> usize {
     deepest(call).saturating_sub(empty)
 }
 
-/// What the call takes in today's library, then in the earlier one.
+/// What the call takes in today's library, then in the earlier one where it can
+/// be asked.
 pub fn stacks<C: Contest>(question: &Question) -> Vec<usize> {
     let mut question = question.clone();
-    C::linked()
+    C::asked(&question.clone())
         .map(|function| depth(&mut || _ = black_box(function.library(&mut question))))
         .collect()
 }

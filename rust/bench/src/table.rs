@@ -10,8 +10,11 @@ use crate::timing::{in_turn, libraries, second_program, Times};
 /// From this ratio on, library to second program, a class is named.
 const SLOWER: f64 = 1.5;
 
+/// As many letters as the longest name of a class has.
+const NAME_WIDTH: usize = 29;
+
 pub fn print<C: Contest>(classes: &[Class]) {
-    print!("\n{:<22} {:<10} {:>5} ", C::NAME, "verdict", "bytes");
+    print!("\n{:<NAME_WIDTH$} {:<10} {:>5} ", C::NAME, "verdict", "bytes");
     print!("{} {} {:>5}", column("library", ""), column("second", "program"), "ratio");
     println!("{}", before_titles::<C>());
     let (mut slower, mut earlier) = (Vec::new(), Vec::new());
@@ -36,11 +39,11 @@ pub fn print<C: Contest>(classes: &[Class]) {
 /// Answers the ratio, library to second program.
 fn print_row<C: Contest>(class: &Class) -> f64 {
     let mut contenders = vec![second_program::<C>()];
-    contenders.extend(libraries::<C>());
+    contenders.extend(libraries::<C>(&Question::about(&class.query)));
     let times = in_turn(&contenders, &class.query);
     let (second, libraries) = (&times[0], &times[1..]);
     let ratio = libraries[0].ratio_to(second);
-    print!("{:<22} {:<10} {:>5} ", class.name, class.verdict(), class.query.len());
+    print!("{:<NAME_WIDTH$} {:<10} {:>5} ", class.name, class.verdict(), class.query.len());
     print!("{} {} {ratio:>5.2}", cell(&libraries[0]), cell(second));
     println!("{}", before_columns::<C>(libraries, &class.query));
     ratio
@@ -55,7 +58,7 @@ pub fn cell(times: &Times) -> String {
     column(&format!("{:.0}", times.median()), &spread)
 }
 
-/// Where an earlier library is linked, the columns about it: its time, today's
+/// Where an earlier library was timed, the columns about it: its time, today's
 /// ratio to it, and the stack of the call today and before.
 pub fn before_columns<C: Contest>(libraries: &[Times], query: &[u8]) -> String {
     let [library, before] = libraries else { return String::new() };

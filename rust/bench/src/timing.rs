@@ -51,9 +51,11 @@ fn contender<T>(call: impl Fn(&mut Question) -> T + 'static) -> Contender {
     })
 }
 
-/// Today's library, then the earlier one: both through the same code.
-pub fn libraries<C: Contest>() -> Vec<Contender> {
-    C::linked().map(|function| contender(move |question| function.library(question))).collect()
+/// Today's library, then the earlier one where it can be asked: both through
+/// the same code.
+pub fn libraries<C: Contest>(question: &Question) -> Vec<Contender> {
+    let functions = C::asked(question);
+    functions.map(|function| contender(move |question| function.library(question))).collect()
 }
 
 pub fn second_program<C: Contest>() -> Contender {
