@@ -7,25 +7,6 @@ pub fn without_equal(answer: &str) -> String {
     answer.split_inclusive('\n').filter(|line| !line.starts_with("eq ")).collect()
 }
 
-/// Without the comparisons that the test holds of, by their base terms.
-pub fn without_comparisons(answer: &str, test: impl Fn(usize, usize) -> bool) -> String {
-    without_literals(answer, &["eq", "ne"], test)
-}
-
-/// Without the conclusion, if the test holds of its base terms.
-pub fn without_conclusion(answer: &str, test: impl Fn(usize, usize) -> bool) -> String {
-    without_literals(answer, &["then"], test)
-}
-
-fn without_literals(answer: &str, words: &[&str], test: impl Fn(usize, usize) -> bool) -> String {
-    let number = |word: &str| word.parse().expect("the number of a term");
-    let goes = |line: &&str| match line.split_whitespace().collect::<Vec<&str>>()[..] {
-        [word, one, other] => words.contains(&word) && test(number(one), number(other)),
-        _ => false,
-    };
-    answer.split_inclusive('\n').filter(|line| !goes(line)).collect()
-}
-
 pub fn with_pair_lost(answer: &str) -> String {
     let (first, rest) = answer.split_once('\n').unwrap_or((answer, ""));
     match first.strip_prefix("conflict ").and_then(|pairs| pairs.parse::<usize>().ok()) {

@@ -2,18 +2,16 @@
 //! finds and shrinks them. Each is named by what goes wrong.
 
 use crate::disturb::{
-    with_cells_cut_off, with_last_byte_lost, with_pair_lost, with_sign_turned, without_comparisons,
-    without_conclusion, without_equal, CELLS_LEFT,
+    with_cells_cut_off, with_last_byte_lost, with_pair_lost, with_sign_turned, without_equal,
+    CELLS_LEFT,
 };
 use crate::expected::expected;
+use crate::left_out::left_out;
 use crate::mistake::mistaken;
 use crate::product::Product;
 use crate::request::{Question, Request};
 use crate::rooms::answer_length;
 use crate::rules::{lemma_by, lines, Rule};
-use judge::field::decode;
-use judge::graph::fixed_bases;
-use judge::tiny::base_values;
 
 #[derive(Clone, Copy, Debug, PartialEq, Eq)]
 pub enum Fault {
@@ -99,6 +97,12 @@ impl Fault {
         }
     }
 
+    /// Whether the faulty copy leaves a literal out that is to stay, by fixed
+    /// numbers.
+    fn leaves_out(self) -> bool {
+        matches!(self, Fault::LeftOutByOne | Fault::FixedByValue | Fault::ConclusionLeftOut)
+    }
+
     /// The rule by which the faulty copy finds its path, if it has another.
     fn rule(self) -> Option<Rule> {
         match self {
@@ -149,18 +153,8 @@ impl FaultyProduct<'_> {
         }
         match (self.fault, request.question) {
             (Fault::EqualLeftOut, Question::Verdict) => without_equal(&answer),
-            (Fault::LeftOutByOne, Question::Verdict) => {
-                let fixed = Fixed::of(&request.query);
-                without_comparisons(&answer, |one, other| fixed.has(one) || fixed.has(other))
-            }
-            (Fault::FixedByValue, Question::Verdict) => {
-                let fixed = Fixed::of(&request.query);
-                let by_value = |one, other| fixed.has_value_of(one) && fixed.has_value_of(other);
-                without_comparisons(&answer, by_value)
-            }
-            (Fault::ConclusionLeftOut, Question::Verdict) => {
-                let fixed = Fixed::of(&request.query);
-                without_conclusion(&answer, |one, other| fixed.has(one) && fixed.has(other))
+            (fault, Question::Verdict) if fault.leaves_out() => {
+                left_out(fault, &request.query, &answer)
             }
             (Fault::PairLost, Question::Verdict) => with_pair_lost(&answer),
             (Fault::CellsCutOff, Question::Verdict) => with_cells_cut_off(&answer),
@@ -197,27 +191,5 @@ fn with_another_path(rule: Rule, request: &Request, answer: String) -> String {
             format!("{first}\n{}", lines(&lemma))
         }
         _ => answer,
-    }
-}
-
-/// Which base terms of an accepted query are fixed, and what values all have.
-struct Fixed {
-    bases: Vec<bool>,
-    values: Vec<u32>,
-}
-
-impl Fixed {
-    fn of(query: &[u8]) -> Fixed {
-        let (fields, _) = decode(query);
-        Fixed { bases: fixed_bases(&fields), values: base_values(&fields) }
-    }
-
-    fn has(&self, base: usize) -> bool {
-        self.bases[base]
-    }
-
-    fn has_value_of(&self, base: usize) -> bool {
-        let fixed = (0..self.bases.len()).filter(|one| self.has(*one));
-        fixed.map(|one| self.values[one]).any(|value| value == self.values[base])
     }
 }

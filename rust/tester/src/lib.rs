@@ -13,6 +13,7 @@ pub mod drop_fields;
 pub mod exhaustive;
 pub mod expected;
 pub mod fault;
+pub mod left_out;
 pub mod library;
 pub mod memory;
 pub mod mistake;

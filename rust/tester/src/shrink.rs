@@ -197,3 +197,27 @@ fn lesser_questions(question: Question) -> Vec<Question> {
 fn lesser(number: u64) -> [u64; 3] {
     [0, number / 2, number.saturating_sub(1)]
 }
+
+#[cfg(test)]
+mod tests {
+    use super::*;
+    use crate::fault::{Fault, FaultyProduct, Reference};
+
+    /// How many fixed numbers are left where K1 of two fixed indices is shrunk.
+    fn fixed_left(fault: Fault) -> usize {
+        let read = |index: u16, value: u32| Field::Read { array: 0, index, value };
+        let index = Field::Fixed { value: 5 };
+        let query = encode(&[index, index, Field::Variable, read(0, 7), read(1, 9)]);
+        let product = &mut FaultyProduct { fault, right: &mut Reference };
+        let asked = compare(product, &[Request { question: Question::Verdict, query }]);
+        let difference = asked.into_iter().find(Comparison::differs).expect("the fault shows");
+        let small = shrink(product, difference).request.query;
+        decode(&small).0.iter().filter(|field| field.is_fixed()).count()
+    }
+
+    #[test]
+    fn a_number_stays_fixed_only_where_the_difference_needs_it() {
+        assert_eq!(fixed_left(Fault::PairLost), 0);
+        assert_eq!(fixed_left(Fault::KeptByTwo), 2);
+    }
+}
