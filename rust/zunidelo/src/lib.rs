@@ -2,9 +2,9 @@
 //!
 //! A query is a run of bytes that gives array terms (variables, writes,
 //! conditionals, reads, equalities), a guessed value for each read, and fixed
-//! numbers, which have their value whatever is guessed. This
-//! crate is a thin, safe cover over the library's three functions, which are
-//! proved to meet their contracts:
+//! numbers, which have their value whatever is guessed. This crate is a thin,
+//! safe cover over the library's three functions, which are proved to meet
+//! their contracts:
 //!
 //! - [`check`] says whether some memories fit the guess, and gives a lemma
 //!   that rules the guess out where none do;
