@@ -6,9 +6,8 @@
 use crate::agreement::{assert_all_agree, lemma_of};
 use crate::cases::stored;
 use crate::contenders::Question;
-use crate::lemmas::kinds;
+use crate::kinds::{add, print_kinds, Tally};
 use crate::libraries::{Check, Clauses, Function, Lookup};
-use judge::random::Random;
 use tester::constants::with_indices_fixed;
 
 /// What lemmas have in all: literals, clauses, and variables, used or not.
@@ -26,7 +25,7 @@ struct Totals {
     fixed: Cost,
 }
 
-impl Totals {
+impl Tally for Totals {
     /// Adds a query without fixed numbers.
     fn add_query(&mut self, name: &str, query: &[u8]) {
         self.queries += 1;
@@ -41,7 +40,7 @@ impl Totals {
         }
     }
 
-    fn add(&mut self, other: &Totals) {
+    fn add(&mut self, other: &Self) {
         self.queries += other.queries;
         self.conflicts += other.conflicts;
         self.shorter += other.shorter;
@@ -55,12 +54,6 @@ impl Totals {
             print!("  {free:>9}{fixed:>9}");
         }
         println!();
-    }
-}
-
-fn add(total: &mut Cost, cost: &Cost) {
-    for (sum, number) in total.iter_mut().zip(cost) {
-        *sum += number;
     }
 }
 
@@ -88,17 +81,7 @@ fn print_titles(of: &str) {
 pub fn print(seed: u64, count: u64) {
     println!("\nthe same queries with their indices free and fixed: what their lemmas have in all");
     print_titles("kind of query");
-    let mut all = Totals::default();
-    for (name, query) in kinds() {
-        let mut totals = Totals::default();
-        for number in 0..count {
-            let place = format!("{name}, seed {seed}, query {number}");
-            totals.add_query(&place, &query(&mut Random::for_number(seed, number)));
-        }
-        totals.print(name);
-        all.add(&totals);
-    }
-    all.print("all");
+    let all: Totals = print_kinds(seed, count);
     print_titles("stored query");
     for (name, query) in stored().iter().filter(|stored| !Question::about(&stored.1).has_fixed()) {
         let mut totals = Totals::default();

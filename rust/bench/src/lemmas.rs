@@ -5,35 +5,10 @@
 
 use crate::agreement::{assert_all_agree, lemma_of, Alike};
 use crate::contenders::{Contest, Question};
+use crate::kinds::{add, print_kinds, Tally};
 use crate::libraries::{Check, Clauses, Function, Lookup};
 use judge::lemma::Literal;
-use judge::random::Random;
-use tester::bounds::{all_pairs, longest_detour, longest_lemma, many_paths, Links};
-use tester::cells::many_cells;
 use tester::rules::byte_count;
-use tester::shapes::SHAPES;
-use tester::ways::{many_ways, written_apart};
-
-/// Makes a query of a kind.
-type Generator = Box<dyn Fn(&mut Random) -> Vec<u8>>;
-
-/// The kinds of query that the tester draws, each with its name. None has fixed
-/// numbers, so that an earlier library can be asked about them all.
-pub fn kinds() -> Vec<(&'static str, Generator)> {
-    let shaped =
-        |place: usize| -> Generator { Box::new(move |random| SHAPES[place].query(random)) };
-    let mut kinds: Vec<(&str, Generator)> =
-        (0..SHAPES.len()).map(|place| (SHAPES[place].name, shaped(place))).collect();
-    kinds.push(("many paths", Box::new(many_paths)));
-    kinds.push(("many ways", Box::new(many_ways)));
-    kinds.push(("written apart", Box::new(written_apart)));
-    kinds.push(("many cells", Box::new(|random| many_cells(random, true))));
-    kinds.push(("all pairs", Box::new(|random| all_pairs(random, true))));
-    kinds.push(("longest, writes", Box::new(|random| longest_lemma(random, Links::Writes))));
-    kinds.push(("longest, any links", Box::new(|random| longest_lemma(random, Links::Any))));
-    kinds.push(("longest detour", Box::new(|random| longest_detour(random, 0))));
-    kinds
-}
 
 /// What lemmas have in all: comparisons of a write's index, literals, clauses
 /// and bytes.
@@ -65,7 +40,7 @@ struct Totals {
     longer: usize,
 }
 
-impl Totals {
+impl Tally for Totals {
     fn add_query(&mut self, name: &str, query: &[u8]) {
         let question = Question::about(query);
         let earlier = assert_all_agree::<Check>(name, &question).earlier;
@@ -87,7 +62,7 @@ impl Totals {
         }
     }
 
-    fn add(&mut self, other: &Totals) {
+    fn add(&mut self, other: &Self) {
         self.queries += other.queries;
         self.conflicts += other.conflicts;
         self.others += other.others;
@@ -107,12 +82,6 @@ impl Totals {
         }
         let counts = [self.others, self.more_comparisons, self.shorter, self.longer];
         println!("{}", before_words(&counts));
-    }
-}
-
-fn add(total: &mut Cost, cost: &Cost) {
-    for (sum, number) in total.iter_mut().zip(cost) {
-        *sum += number;
     }
 }
 
@@ -137,38 +106,6 @@ fn print_titles() {
 pub fn print(seed: u64, count: u64) {
     println!("the lemmas of {count} queries of each kind, seed {seed}: what they have in all");
     print_titles();
-    let mut all = Totals::default();
-    for (name, query) in kinds() {
-        let mut totals = Totals::default();
-        for number in 0..count {
-            let place = format!("{name}, seed {seed}, query {number}");
-            totals.add_query(&place, &query(&mut Random::for_number(seed, number)));
-        }
-        totals.print(name);
-        all.add(&totals);
-    }
-    all.print("all");
+    let all: Totals = print_kinds(seed, count);
     println!("{} queries compared, by every call", all.queries);
-}
-
-#[cfg(test)]
-mod tests {
-    use super::*;
-    use second::verdict_lines;
-
-    #[test]
-    fn every_kind_has_conflicts() {
-        for (name, query) in kinds() {
-            let lines = |seed| verdict_lines(&query(&mut Random::new(seed)));
-            assert!((0..100).any(|seed| lines(seed).starts_with("conflict")), "{name}");
-        }
-    }
-
-    #[test]
-    fn no_kind_has_fixed_numbers() {
-        for (name, query) in kinds() {
-            let has_fixed = |seed| Question::about(&query(&mut Random::new(seed))).has_fixed();
-            assert!(!(0..100).any(has_fixed), "{name}");
-        }
-    }
 }

@@ -13,6 +13,7 @@ mod clock;
 mod contenders;
 mod damages;
 mod fixed;
+mod kinds;
 mod least;
 mod lemmas;
 mod libraries;
