@@ -1,5 +1,5 @@
--- What does not depend on what a step costs: reach, the pair count, the conflicting pair, and so the verdict. The answers are written
--- out here with any cost; with the paper's own they are the paper's (by computation).
+-- What does not depend on what a step costs: reach, the pair count, the conflicting pair, and so the verdict. The parts
+-- of a check are written out here with any cost; with the paper's own it is the paper's.
 -- Assumes nothing.
 use Prim.Native.Nat.{ℕ, _+_, _<_, _≤_}
 use native.Mathlib.Nat.{le-refl}
@@ -9,18 +9,19 @@ use mathlib.Core.Logic.{_⊎_, inl, inr, ⊎-elim}
 use mathlib.Core.Bool.{Bool, true, false, cond, false≢true}
 use mathlib.Core.List.{List, [], _∷_, _++_, map}
 use mathlib.Core.Option.{Option, none, some}
-use lib.Dec.{eqb, ltb}
+use lib.Dec.{eqb}
 use lib.ListN.{length, getD}
-use Rattle.paper.specs.Lists.{isSome, mapOption, orElse, keep, find, count, sum, range, firstMet, _refuses_, unlessRefused}
+use Rattle.paper.specs.Lists.{isSome, mapOption, orElse, keep, find, count, sum, range}
 use Rattle.paper.specs.Fields.{array}
-use Rattle.paper.specs.Terms.{Term, given, Query, Assignment, assigned}
+use Rattle.paper.specs.Terms.{Term, given, Query, Assignment}
 use Rattle.paper.specs.Load.{Loaded, load}
 use Rattle.paper.specs.Edges.{indexNumber, Source, sources, Guard, Edge, openEdges}
 use Rattle.paper.specs.Reach.{indexValue, near, stepCost, distances, reachesAt, reaches, pairs}
 use Rattle.paper.specs.Conflict.{Pair, conflicts, firstPair, conflict}
 use Rattle.paper.specs.Lemma.{Literal, pathFrom, hypotheses, stays, path, lemma, lemmaBytes}
-use Rattle.paper.specs.Answers.{Verdict, Checked, checkRefused, checkLoaded, check}
+use Rattle.paper.specs.Answers.{Verdict, Checked, checkRefused, check}
 use Rattle.meaning.proofs.Lists.{same-test, count-same, find-same}
+use Rattle.meaning.proofs.Parts.{checkOf, check-own}
 use Rattle.meaning.proofs.Walks.{Ranged}
 use Rattle.meaning.proofs.Distances.{entry, entry-inside, entry-reached, reached-entry}
 use Rattle.meaning.proofs.Given.{Numbered, open-ranged}
@@ -71,22 +72,8 @@ module _ (cost : Guard → ℕ) where
         keep (stays terms) (hypotheses (indexNumber (pair .first .place)) (indexNumber (pair .later .place)) (pathBy pair))
         ++ (Literal.conclusion (pair .first .value) (pair .later .value) ∷ [])
 
-  abbrev pub checkConflictBy : (room : ℕ) → List Term → Assignment → Option Pair → Checked
-  checkConflictBy room terms g none =
-      record { verdict = Verdict.consistent; refusal = 0; offset = 0; pairs = pairsBy terms g; written = [] }
-  checkConflictBy room terms g (some pair) =
-      let bytes = lemmaBytes (lemmaBy terms g pair) in
-      unlessRefused (firstMet ((ltb room (length bytes) refuses 10) ∷ []))
-      (λ refusal. checkRefused refusal 0)
-      (record { verdict = Verdict.inConflict; refusal = 0; offset = 0; pairs = pairsBy terms g; written = bytes })
-
-  abbrev pub checkLoadedBy : (room : ℕ) → Loaded → Checked
-  checkLoadedBy room (Loaded.refused refusal at) = checkRefused refusal at
-  checkLoadedBy room (Loaded.accepted query) =
-      checkConflictBy room (query .terms) (assigned (query .guess)) (conflictBy (query .terms) (assigned (query .guess)))
-
-  unfoldable pub checkBy : (w : ℕ) → List ℕ → (room : ℕ) → Checked
-  checkBy w bytes room = checkLoadedBy room (load w bytes)
+  abbrev pub checkBy : (w : ℕ) → List ℕ → (room : ℕ) → Checked
+  checkBy = checkOf pairsBy conflictBy lemmaBy
 
 -- whether there is an entry doesn't depend on the cost, so nor do reach, the pair count and the pair
 entries-alike : (cost other : Guard → ℕ) (among : List Edge) (n goal a : ℕ) → Ranged n among
@@ -134,12 +121,8 @@ module _ (cost : Guard → ℕ) (terms : List Term) (numbered : Numbered terms) 
 
 -- with the paper's cost it is the paper's check
 pub check-is : (w : ℕ) (bytes : List ℕ) (room : ℕ) → checkBy stepCost w bytes room ≡ check w bytes room
-unfolding checkBy check pairs reaches reachesAt distances conflicts conflict path lemma
-check-is w bytes room = go (load w bytes)
-  where
-    go : (loaded : Loaded) → checkLoadedBy stepCost room loaded ≡ checkLoaded room loaded
-    go (Loaded.refused refusal at) = refl
-    go (Loaded.accepted query) = refl
+unfolding pairs reaches reachesAt distances conflicts conflict path lemma
+check-is = check-own
 
 -- two checks with one verdict, refusal, offset and pair count
 abbrev pub Alike : Checked → Checked → Type 0
@@ -197,7 +180,7 @@ module _ (cost : Guard → ℕ) (positive : (guard : Guard) → 0 < cost guard) 
     same-pair = conflict-any cost (query .terms) (numbered ok) (guessOf query)
 
     by-none : (room : ℕ) → pairOf query ≡ none → checkBy cost w bytes room ≡ check w bytes room
-    unfolding checkBy
+    unfolding checkOf
     by-none room quiet = rw (check-none w bytes query loaded room quiet, loaded, same-pair, quiet, same-pairs)
 
     abbrev bytesBy : Pair → List ℕ
@@ -208,7 +191,7 @@ module _ (cost : Guard → ℕ) (positive : (guard : Guard) → 0 < cost guard) 
 
     by-some : (room : ℕ) (pair : Pair) → pairOf query ≡ some pair
         → ((length (bytesBy pair) ≤ room) × (checkBy cost w bytes room ≡ inConflictBy pair)) ⊎ ((room < length (bytesBy pair)) × (checkBy cost w bytes room ≡ checkRefused 10 0))
-    unfolding checkBy
+    unfolding checkOf
     by-some room pair found =
         rw (loaded, same-pair, found, same-pairs) (by-room room (length (bytesBy pair)) (inConflictBy pair) (λ refusal. checkRefused refusal 0))
 
@@ -244,7 +227,7 @@ module _ (cost : Guard → ℕ) (positive : (guard : Guard) → 0 < cost guard) 
             (refl, refl, refl, refl))
 
   pub check-any : (room : ℕ) → AlikeUnlessLong (checkBy cost w bytes) (check w bytes) room
-  unfolding checkBy check
+  unfolding checkOf check
   check-any room = go (load w bytes) refl
     where
       go : (loaded : Loaded) → load w bytes ≡ loaded → AlikeUnlessLong (checkBy cost w bytes) (check w bytes) room

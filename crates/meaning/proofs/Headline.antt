@@ -45,6 +45,7 @@ use Rattle.meaning.proofs.Answered as Answered
 use Rattle.meaning.proofs.Answered.{IsAnswered}
 use Rattle.meaning.proofs.Costs as Costs
 use Rattle.meaning.proofs.Costs.{pairsBy, conflictBy, checkBy, Alike, AlikeUnlessLong}
+use Rattle.meaning.proofs.Parts as Parts
 use Rattle.meaning.proofs.Before as Before
 use Rattle.meaning.proofs.Before.{checkWith, writeWith}
 
@@ -206,10 +207,10 @@ fresh-count = Counts.fresh-count
 
 -- 02, E1. `checkWith` and `writeWith` are check and clauses with any lemma; with the paper's own they are the paper's.
 pub check-own-lemma : (w : ℕ) (bytes : List ℕ) (room : ℕ) → checkWith lemma w bytes room ≡ check w bytes room
-check-own-lemma = Before.check-own
+check-own-lemma = Parts.check-own
 
 pub clauses-own-lemma : (w : ℕ) (bytes : List ℕ) (room : ℕ) → writeWith lemma w bytes room ≡ writeClauses w bytes room
-clauses-own-lemma = Before.write-own
+clauses-own-lemma = Parts.write-own
 
 -- What is left out of the lemma moves neither verdict nor refusal nor pair count, for every string of bytes and every buffer of 343 bytes.
 pub verdict-before : (w : ℕ) (bytes : List ℕ) → AreBytes bytes → (room : ℕ) → 343 ≤ room → Alike (checkWith wholeLemma w bytes room) (check w bytes room)

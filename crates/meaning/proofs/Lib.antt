@@ -36,6 +36,7 @@ pub mod Verdict
 pub mod Demands
 pub mod AsBits
 pub mod Answered
+pub mod Parts
 pub mod Costs
 pub mod Before
 pub mod Headline
