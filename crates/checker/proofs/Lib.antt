@@ -1,6 +1,4 @@
 -- The laws that the functions' proofs cite.
-pub mod Ruling
-pub mod Facts
 pub mod Looks
 pub mod Copies
 pub mod Sizes

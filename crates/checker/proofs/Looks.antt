@@ -27,12 +27,12 @@ use Rattle.lemma.specs.Pairs.{Numbers, foundOf}
 use Rattle.model.specs.Held.{ValueOf}
 use Rattle.model.specs.Listed.{listedIn, indexOf, valueOf, CellsOf}
 use Rattle.model.proofs.Modelled.{value-paper, cells-paper}
-use Rattle.checker.specs.declared.front.Ruling.{Ruling}
+use Rattle.front.specs.declared.Ruling.{Ruling}
 use Rattle.checker.specs.declared.Looked.the-variants.{Refused, Value}
 use Rattle.checker.specs.declared.Listed.the-variants.{Refused as NotListed, Cells}
-use Rattle.checker.specs.Fronted.{Judged}
+use Rattle.front.specs.Fronted.{Judged}
 use Rattle.checker.specs.Reports.{lookReportOf, LookAllows, roomOf, ListAllows}
-use Rattle.checker.proofs.Facts.{quiet, clash}
+use Rattle.front.proofs.Facts.{quiet, clash}
 
 -- of a refused load
 pub look-refused : (bytes : List ℕ) (a x number offset : ℕ) → number ≢ 0 → load 32 bytes ≡ Load.refused number offset → LookAllows bytes a x (Refused (record { number = number; offset = offset }))

@@ -23,12 +23,12 @@ use Rattle.meaning.proofs.Demands.{refused-alike}
 use Rattle.terms.specs.Tables.{Tables}
 use Rattle.lemma.specs.Pairs.{Numbers, foundOf}
 use Rattle.lemma.specs.Rows.{listed, literalsOf}
-use Rattle.checker.specs.declared.front.Ruling.{Ruling}
+use Rattle.front.specs.declared.Ruling.{Ruling}
 use Rattle.checker.specs.declared.Checked.the-variants.{Refused, Consistent, Conflict}
 use Rattle.checker.specs.declared.Written.the-variants.{Refused as NotWritten, Clauses}
-use Rattle.checker.specs.Fronted.{Judged, Made}
+use Rattle.front.specs.Fronted.{Judged, Made}
 use Rattle.checker.specs.Reports.{WriteReport, CheckAllows, WriteAllows}
-use Rattle.checker.proofs.Facts.{pairs-are, quiet, clash, pair, lemma-is}
+use Rattle.front.proofs.Facts.{pairs-are, quiet, clash, pair, lemma-is}
 
 -- of a refused load
 pub check-refused : (bytes before : List ℕ) (number offset : ℕ) → load 32 bytes ≡ Load.refused number offset

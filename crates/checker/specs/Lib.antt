@@ -1,3 +1,2 @@
 -- The public functions' answers, in the paper's words, and what the functions between come to.
-pub mod Fronted
 pub mod Reports

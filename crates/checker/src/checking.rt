@@ -2,12 +2,13 @@
 ghost use mathlib.Core.List.{List};
 ghost use Prim.Native.Nat.{ℕ};
 ghost use Rattle.terms.specs.Tables.{tables};
-ghost use Rattle.checker.specs.Fronted.{Judged, JudgedOn};
+ghost use Rattle.front.specs.Fronted.{Judged, JudgedOn};
 ghost use Rattle.checker.specs.Reports.{CheckAllows};
 use crate::Checked;
-use crate::front::Ruling;
-use crate::front::judge;
-use crate::front::pair_literals;
+use faults::Counts;
+use front::Ruling;
+use front::judge;
+use front::pair_literals;
 use lemma::Found;
 use lemma::lemma_length;
 use lemma::put_lemma;
@@ -18,7 +19,6 @@ use paper::MAX_LITERALS;
 use paper::MAX_SOURCES;
 use paper::NO_ROOM;
 use query::Refusal;
-use terms::Counts;
 
 // The answer of a check, once there is a ruling.
 fn conclude<'a>(

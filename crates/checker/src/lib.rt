@@ -3,7 +3,6 @@
 use query::Refusal;
 
 mod checking;
-mod front;
 mod listing;
 mod looking;
 mod writing;

@@ -5,11 +5,12 @@ ghost use Prim.Native.Nat.{ℕ, _≤_};
 ghost use lib.ListN.{length, take};
 ghost use Rattle.paper.specs.Sizes.{maxSources};
 ghost use Rattle.paper.specs.Answers.{writtenOver};
-ghost use Rattle.checker.specs.Fronted.{Judgeable, JudgedBy};
+ghost use Rattle.front.specs.Fronted.{Judgeable, JudgedBy};
 ghost use Rattle.checker.specs.Reports.{ListAllows};
 use crate::Listed;
-use crate::front::Ruling;
-use crate::front::judge;
+use faults::Counts;
+use front::Ruling;
+use front::judge;
 use lemma::Found;
 use model::list_cells;
 use paper::MAX_BASES;
@@ -20,7 +21,6 @@ use paper::NO_CELL;
 use paper::NO_ROOM;
 use paper::OTHER_VERDICT;
 use query::Refusal;
-use terms::Counts;
 
 // Copies the first numbers of a run into another.
 fn copy_first<'a>(from: &'a [u64; MAX_SOURCES], used: usize, run: &mut [u64])

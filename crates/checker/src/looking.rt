@@ -1,11 +1,12 @@
 // The lookup: the value of one cell of the model (01, Sources, edges, reach).
 ghost use mathlib.Core.List.{List};
 ghost use Prim.Native.Nat.{ℕ};
-ghost use Rattle.checker.specs.Fronted.{Judgeable, JudgedBy};
+ghost use Rattle.front.specs.Fronted.{Judgeable, JudgedBy};
 ghost use Rattle.checker.specs.Reports.{LookAllows};
 use crate::Looked;
-use crate::front::Ruling;
-use crate::front::judge;
+use faults::Counts;
+use front::Ruling;
+use front::judge;
 use lemma::Found;
 use paper::MAX_BASES;
 use paper::MAX_BOOLEANS;
@@ -15,7 +16,6 @@ use paper::NO_CELL;
 use paper::NUMBERS;
 use paper::OTHER_VERDICT;
 use query::Refusal;
-use terms::Counts;
 
 // The answer of a lookup, once there is a ruling: 12, then 11.
 fn look<'a>(

@@ -2,13 +2,14 @@
 ghost use mathlib.Core.List.{List};
 ghost use Prim.Native.Nat.{ℕ};
 ghost use Rattle.terms.specs.Tables.{tables};
-ghost use Rattle.checker.specs.Fronted.{Judged, JudgedOn};
+ghost use Rattle.front.specs.Fronted.{Judged, JudgedOn};
 ghost use Rattle.checker.specs.Reports.{WriteAllows};
 use crate::Totals;
 use crate::Written;
-use crate::front::Ruling;
-use crate::front::judge;
-use crate::front::pair_literals;
+use faults::Counts;
+use front::Ruling;
+use front::judge;
+use front::pair_literals;
 use lemma::Found;
 use paper::MAX_BASES;
 use paper::MAX_BOOLEANS;
@@ -19,7 +20,6 @@ use paper::NO_ROOM;
 use paper::OTHER_VERDICT;
 use paper::WIDTH;
 use query::Refusal;
-use terms::Counts;
 
 // The answer of the clause writer, once there is a ruling: 12, then 10.
 fn write<'a>(

@@ -17,7 +17,7 @@ use Rattle.paper.specs.Lemma.{Literal, leadsNearer, pathFrom, literalOf, hypoth
 use Rattle.meaning.proofs.Lists.{find-in, keep-same, keep-in, keep-append, concatMap-in}
 use Rattle.meaning.proofs.Literals.{hypothesis-is}
 use Rattle.terms.specs.Tables.{Tables, fixedIn, edgesIn}
-use Rattle.terms.specs.Faults.{countIn}
+use Rattle.faults.specs.Faults.{countIn}
 use Rattle.terms.specs.Holds.{Holds}
 use Rattle.terms.specs.Graph.{Each, GuardWithin, EdgeWithin, Graphed}
 use Rattle.reach.proofs.Words.{in-each}

@@ -21,7 +21,7 @@ use Rattle.meaning.proofs.Built.{are-bytes}
 use Rattle.meaning.proofs.Accepted.{accepted}
 use Rattle.meaning.proofs.Sources.{sources-bound}
 use Rattle.terms.specs.Tables.{Tables, sourceIn, edgesIn}
-use Rattle.terms.specs.Faults.{countIn}
+use Rattle.faults.specs.Faults.{countIn}
 use Rattle.terms.specs.Holds.{Holds}
 use Rattle.terms.specs.Graph.{Each, SourceWithin, EdgeWithin, Graphed}
 use Rattle.terms.specs.Loads.{Loads, loadedAs}

@@ -20,9 +20,9 @@ use Rattle.paper.specs.Load.{readIndex, witnessIndex}
 use Rattle.paper.specs.Edges.{sourceOf, sources, edgeOf, edges}
 use Rattle.meaning.proofs.Lists.{concatMap-append}
 use Rattle.meaning.proofs.Placed.{given-append}
-use Rattle.terms.specs.declared.Counts.{Counts}
+use Rattle.faults.specs.declared.Counts.{Counts}
 use Rattle.terms.specs.Tables.{fixedMark, fixedIn}
-use Rattle.terms.specs.Faults.{countIn}
+use Rattle.faults.specs.Faults.{countIn}
 use Rattle.terms.specs.Holds.{Column, Counted, ReadsFound, asIs, asTrue}
 
 module _ {A : Type 0} {size : ℕ} {says : ℕ → List A} {n : ℕ} {cells : List ℕ} {list : List A} (column : Column size says n cells list) where

@@ -16,9 +16,9 @@ use Rattle.query.specs.Standing.{kindOfField, numbersOf}
 use Rattle.query.specs.declared.EqualityParts.{EqualityParts}
 use Rattle.query.specs.declared.Field.{Field}
 use Rattle.query.specs.declared.Field.the-variants.{FreeBase, FreeBoolean, Variable, Write, Conditional, Read, Equality, Fixed}
-use Rattle.terms.specs.declared.Counts.{Counts}
+use Rattle.faults.specs.declared.Counts.{Counts}
 use Rattle.terms.specs.Tables.{Tables}
-use Rattle.terms.specs.Faults.{countIn, badWitnessesBy, equalWitnessesBy, ofEqualityField, truthsOf, faultBy}
+use Rattle.faults.specs.Faults.{countIn, badWitnessesBy, equalWitnessesBy, ofEqualityField, truthsOf, faultBy}
 use Rattle.terms.specs.Holds.{Holds}
 use Rattle.terms.proofs.Columns.{value-at}
 use Rattle.terms.proofs.Fits.{Named, named}
@@ -27,10 +27,6 @@ good-witnesses : (a b : Bool) (i j : ℕ) → sameIndex (cond a (some i) none) (
 good-witnesses true true i j = refl
 good-witnesses true false i j = refl
 good-witnesses false b i j = refl
-
--- of a truth alone the last test is never met
-pub boolean-fault : (reads values : List ℕ) (c : Counts) (truth : ℕ) → faultBy reads values c (FreeBoolean truth) ≡ cond (leb 64 (c .booleans)) 5 (cond (ltb 1 truth || false) 7 0)
-boolean-fault reads values c truth = ap (λ (b : Bool). cond (leb 64 (c .booleans)) 5 (cond (ltb 1 truth || false) 7 (cond b 9 0))) (and-false (eqb 0 truth || false))
 
 -- the first two tests, and what the others come to
 abbrev firstTwo : (Series → ℕ) → Kind → List ℕ → (rest : ℕ) → ℕ

@@ -13,9 +13,9 @@ use Rattle.paper.specs.Load.{eachPart, asUngiven, isFull, namesUngiven}
 use Rattle.query.specs.Standing.{kindOfField, numbersOf}
 use Rattle.query.specs.declared.Field.{Field}
 use Rattle.query.specs.declared.Field.the-variants.{FreeBase, FreeBoolean, Variable, Write, Conditional, Read, Equality, Fixed}
-use Rattle.terms.specs.declared.Counts.{Counts}
+use Rattle.faults.specs.declared.Counts.{Counts}
 use Rattle.terms.specs.Tables.{Room}
-use Rattle.terms.specs.Faults.{countIn, faultBy}
+use Rattle.faults.specs.Faults.{countIn, faultBy}
 use Rattle.terms.specs.Holds.{Counted}
 
 -- no test of a list is true

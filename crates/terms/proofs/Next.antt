@@ -16,7 +16,7 @@ use Rattle.query.specs.Standing.{kindOfField, numbersOf}
 use Rattle.query.specs.declared.Field.{Field}
 use Rattle.query.specs.declared.Field.the-variants.{FreeBase, FreeBoolean, Variable, Write, Conditional, Read, Equality, Fixed}
 use Rattle.terms.specs.Tables.{Tables, noRead, fixedMark, readRow, sourceRow, edgeRow, edgesIn, putIn, Room}
-use Rattle.terms.specs.Faults.{countIn, faultBy}
+use Rattle.faults.specs.Faults.{countIn, faultBy}
 use Rattle.terms.specs.Holds.{Holds, Column, asSource}
 use Rattle.terms.proofs.Columns.{kept, pushed, sources-more, edges-more, base-more, boolean-more, array-more, no-read-more, read-more}
 use Rattle.terms.proofs.Packed.{read-from, read-index, source-back, edge-back}

@@ -16,9 +16,9 @@ use Rattle.query.specs.Standing.{standing, kindOfField, numbersOf}
 use Rattle.query.specs.Standing as Standing
 use Rattle.query.specs.declared.Field.{Field}
 use Rattle.terms.proofs.Steps.{Left, left-first, too-long, left-end, left-broken, left-fault, left-next}
-use Rattle.terms.specs.declared.Counts.{Counts}
+use Rattle.faults.specs.declared.Counts.{Counts}
 use Rattle.terms.specs.Tables.{Tables, tables, putIn, Room, Sized}
-use Rattle.terms.specs.Faults.{countIn, faultBy}
+use Rattle.faults.specs.Faults.{countIn, faultBy}
 use Rattle.terms.specs.Holds.{Holds}
 use Rattle.terms.specs.Loads.{Loads, loadedAs}
 use Rattle.terms.proofs.Fits.{fit-room}

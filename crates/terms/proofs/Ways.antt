@@ -20,7 +20,7 @@ use Rattle.meaning.proofs.Lists.{keep-append}
 use Rattle.meaning.proofs.Built.{AreBytes}
 use Rattle.meaning.proofs.Accepted.{Below, ownNumber, Accepted, accepted, below, own-below}
 use Rattle.terms.specs.Tables.{Tables, sourceIn, edgesOf, edgesIn}
-use Rattle.terms.specs.Faults.{countIn}
+use Rattle.faults.specs.Faults.{countIn}
 use Rattle.terms.specs.Holds.{Holds, asSource}
 use Rattle.terms.specs.Graph.{shutTo, openOf, openIn, mayOpen, opened, Each, SourceWithin, EdgeWithin, Graphed}
 use Rattle.terms.proofs.Columns.{each-as, value-at, truth-at}

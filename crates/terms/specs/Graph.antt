@@ -13,7 +13,7 @@ use Rattle.paper.specs.Terms.{isFixed, Query, assigned}
 use Rattle.paper.specs.Edges.{Source, indexNumber, sources, Guard, Edge, openEdges}
 use Rattle.terms.specs.declared.graph.Way.{Way}
 use Rattle.terms.specs.Tables.{Tables, fixedIn, sourceIn, edgesIn}
-use Rattle.terms.specs.Faults.{countIn}
+use Rattle.faults.specs.Faults.{countIn}
 
 -- is the row a write's whose index has value x?
 unfoldable pub shutTo : (values : List ℕ) (x row : ℕ) → Bool

@@ -13,9 +13,9 @@ use Rattle.paper.specs.Fields.{Series}
 use Rattle.paper.specs.Terms.{Term, given, isFixed, Query}
 use Rattle.paper.specs.Load.{witnessIndex}
 use Rattle.paper.specs.Edges.{Source, sources, edges}
-use Rattle.terms.specs.declared.Counts.{Counts}
+use Rattle.faults.specs.declared.Counts.{Counts}
 use Rattle.terms.specs.Tables.{Tables, fixedIn, sourceIn, edgesIn}
-use Rattle.terms.specs.Faults.{countIn}
+use Rattle.faults.specs.Faults.{countIn}
 
 -- the first n cells of a column of so many say this list, each cell a part of it
 pub record Column {A : Type 0} (size : ℕ) (says : ℕ → List A) (n : ℕ) (cells : List ℕ) (list : List A) : Type 0 where

@@ -10,7 +10,7 @@ use Rattle.paper.specs.Sizes.{maxArrays, maxBases, maxBooleans, maxSources, max
 use Rattle.paper.specs.Edges.{at, Source, Guard, Edge}
 use Rattle.query.specs.declared.Field.{Field}
 use Rattle.query.specs.declared.Field.the-variants.{FreeBase, FreeBoolean, Variable, Write, Conditional, Read, Equality, Fixed}
-use Rattle.terms.specs.declared.Counts.{Counts}
+use Rattle.faults.specs.declared.Counts.{Counts}
 
 pub record Tables : Type 0 where
   pub values : List ℕ

@@ -8,8 +8,9 @@ ghost use Rattle.terms.specs.Tables.{tables, readRow, moreBases, putIn, 
 ghost use Rattle.terms.specs.Loads.{Loads};
 
 pub mod graph;
-mod refuse;
 
+use faults::Counts;
+use faults::fault;
 use graph::CHOOSES;
 use graph::DIFFERS;
 use graph::EQUATES;
@@ -23,22 +24,12 @@ use paper::MAX_SOURCES;
 use paper::TOO_LONG;
 use query::Decoded;
 use query::Field;
-use refuse::fault;
 
 // Stands for the read that gives a base term that is none: its array would have number 255. A fixed number has the like, with another
 // index, so that it costs no table to know which base terms are fixed.
 const NO_READ: u16 = 255;
 
 const FIXED_MARK: u16 = 511;
-
-// How many terms of each series are given, and how many rows the tables of sources and edges have.
-pub struct Counts {
-    pub bases: u16,
-    pub booleans: u16,
-    pub arrays: u16,
-    pub sources: u16,
-    pub edges: u16,
-}
 
 // What loading ends in: refusal 0 with the counts of the query that is accepted, or the refusal with its offset.
 pub struct Loaded {

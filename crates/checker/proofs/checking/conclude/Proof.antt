@@ -4,7 +4,7 @@ use native.Mathlib.Omega.{arith}
 use mathlib.Core.Path.{refl, ap}
 use borrow.Author.Needs.{needs}
 use Rattle.lemma.specs.Pairs.{foundOf}
-use Rattle.checker.proofs.Facts.{paired}
+use Rattle.front.proofs.Facts.{paired}
 use Rattle.checker.proofs.Writes.{checks-quiet, checks-short, checks-conflict}
 use Rattle.checker.proofs.checking.conclude.Statement.{statement}
 use Rattle.checker.proofs.checking.conclude.Tie as tie

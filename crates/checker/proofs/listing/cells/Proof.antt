@@ -1,7 +1,7 @@
 -- `checker::listing::cells` meets its contract: a refused query by the loader's refusal, an accepted one by what is ruled on its tables.
 -- Assumes nothing.
 use borrow.Author.Needs.{needs}
-use Rattle.checker.proofs.Facts.{refused, judged}
+use Rattle.front.proofs.Facts.{refused, judged}
 use Rattle.checker.proofs.Looks.{list-refused}
 use Rattle.checker.proofs.listing.cells.Statement.{statement}
 use Rattle.checker.proofs.listing.cells.Tie as tie

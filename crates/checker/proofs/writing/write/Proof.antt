@@ -5,7 +5,7 @@ use native.Mathlib.Omega.{arith}
 use mathlib.Core.Path.{refl, ap}
 use borrow.Author.Needs.{needs}
 use Rattle.lemma.specs.Pairs.{foundOf}
-use Rattle.checker.proofs.Facts.{paired}
+use Rattle.front.proofs.Facts.{paired}
 use Rattle.checker.proofs.Sizes.{fresh-small}
 use Rattle.checker.proofs.Writes.{writes-quiet, writes-short, writes-clauses}
 use Rattle.checker.proofs.writing.write.Statement.{statement}

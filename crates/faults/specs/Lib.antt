@@ -1,0 +1,2 @@
+-- The tests of a field, in the paper's words.
+pub mod Faults
