@@ -1,2 +1,2 @@
--- The public functions' answers, in the paper's words, and what the functions between come to.
+-- The public functions' answers, in the paper's words.
 pub mod Reports

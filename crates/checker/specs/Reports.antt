@@ -8,10 +8,8 @@ use mathlib.Core.List.{List, [], _∷_, map}
 use lib.Dec.{eqb, ltb}
 use lib.IntN.{ℤ}
 use lib.ListN.{length}
-use Rattle.paper.specs.Cells.{Cell}
 use Rattle.paper.specs.Answers.{Verdict, writtenOver}
 use Rattle.paper.specs.Answers as Paper
-use Rattle.query.specs.declared.Refusal.{Refusal}
 use Rattle.checker.specs.declared.Checked.{Checked}
 use Rattle.checker.specs.declared.Checked.the-variants.{Refused, Consistent, Conflict}
 use Rattle.checker.specs.declared.Looked.{Looked}

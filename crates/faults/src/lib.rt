@@ -2,10 +2,9 @@
 // the reads and by the assigned values, as the loader has them in its tables.
 ghost use mathlib.Core.Path.{_≡_};
 ghost use mathlib.Core.Bool.{false, cond, not, _||_, _&&_};
-ghost use mathlib.Core.List.{[], _∷_};
 ghost use lib.Dec.{eqb, leb, ltb};
 ghost use Prim.Native.Nat.{_%_, _/_};
-ghost use Rattle.paper.specs.Sizes.{maxArrays, maxBases, maxBooleans};
+ghost use Rattle.paper.specs.Sizes.{maxBooleans};
 ghost use Rattle.faults.specs.Faults.{faultBy, badWitnessesBy, equalWitnessesBy};
 use paper::EQUAL_WITNESSES;
 use paper::MAX_ARRAYS;

@@ -4,10 +4,10 @@ use Prim.Native.Nat.{ℕ}
 use native.Mathlib.Nat.{mod-eq-of-lt}
 use native.Mathlib.Omega.{arith}
 use mathlib.Core.Path.{_≡_, refl, sym, ap, ap₂, _∙_, fun-ext}
-use mathlib.Core.Bool.{Bool, true, false, cond, _&&_, _||_, and-false}
+use mathlib.Core.Bool.{Bool, true, false, cond, _&&_}
 use mathlib.Core.List.{List}
 use mathlib.Core.Option.{none, some}
-use lib.Dec.{eqb, leb, ltb}
+use lib.Dec.{eqb, ltb}
 use Rattle.paper.specs.Lists.{any, firstMet}
 use Rattle.paper.specs.Fields.{Series, Kind}
 use Rattle.paper.specs.Terms.{Query}
@@ -16,7 +16,6 @@ use Rattle.query.specs.Standing.{kindOfField, numbersOf}
 use Rattle.query.specs.declared.EqualityParts.{EqualityParts}
 use Rattle.query.specs.declared.Field.{Field}
 use Rattle.query.specs.declared.Field.the-variants.{FreeBase, FreeBoolean, Variable, Write, Conditional, Read, Equality, Fixed}
-use Rattle.faults.specs.declared.Counts.{Counts}
 use Rattle.terms.specs.Tables.{Tables}
 use Rattle.faults.specs.Faults.{countIn, badWitnessesBy, equalWitnessesBy, ofEqualityField, truthsOf, faultBy}
 use Rattle.terms.specs.Holds.{Holds}

@@ -1,6 +1,6 @@
 -- `query::field_at` meets its contract: in each arm the tag is the arm's number, so that the room that is required is the kind's own.
 -- Assumes nothing.
-use mathlib.Core.Path.{_≡_, refl, sym, ap}
+use mathlib.Core.Path.{refl, sym, ap}
 use Prim.Native.Nat.{ℕ, _<_}
 use native.Mathlib.Omega.{arith}
 use mathlib.Core.List.{[], _∷_}

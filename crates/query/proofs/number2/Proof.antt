@@ -1,7 +1,6 @@
 -- `query::number2` meets its contract: the reader's number of two bytes is below 256 ^ 2, so that the cast loses nothing.
 -- Assumes nothing.
 use native.Mathlib.Omega.{arith}
-use borrow.Author.Needs.{needs}
 use Rattle.query.proofs.number2.Statement.{statement}
 use Rattle.query.proofs.number2.Tie as tie
 

@@ -1,5 +1,5 @@
 -- `lemma::fixed::left_out` meets its contract: by its tag a literal compares two base terms, or stays. Assumes nothing.
-use mathlib.Core.Path.{_≡_, sym, ap₂, _∙_}
+use mathlib.Core.Path.{sym, ap₂, _∙_}
 use Prim.Native.Nat.{ℕ}
 use mathlib.Core.Bool.{_&&_}
 use native.Mathlib.Omega.{arith}
