@@ -1,5 +1,5 @@
 -- 01, Known queries: the starred ones, K1 to K11, K12 and ours, in one table with one statement, proved by computation. What a row says is
--- spelled out, number by number and byte by byte: it calls nothing that it tests. Those with fixed numbers are in Fixed.antt.
+-- spelled out, number by number and byte by byte: it calls nothing that it tests. Those with fixed numbers are in Fixed.antt, and fronts in Growing.antt.
 -- Assumes nothing.
 use Prim.Native.Nat.{ℕ, _+_, _^_}
 use mathlib.Core.Path.{_≡_, refl}
@@ -24,12 +24,13 @@ use Rattle.paper.specs.Clauses.{namedClauses, freshCount, clausesOf, cla
 use Rattle.paper.specs.Reading.{readLemma, readRun}
 use Rattle.paper.specs.Answers.{check, look, list, writeClauses, writtenOver}
 use Rattle.paper.proofs.Rows.{Answer, literalsAre, bytesAre, clausesAre, valueIs, truthIs, Row, _is_, count, closed}
-use Rattle.paper.proofs.Rows.{consistentIn, conflictIn, refusedIn, consistent, conflictOf, refused, cell, noCell, cellsIn, noCells, clausesCount, clausesIn, noClauses}
+use Rattle.paper.proofs.Rows.{consistentIn, conflictIn, refusedIn, consistent, conflictOf, refused, cell, noCell, cellsIn, noCells, clausesCount, clausesIn, noClauses, cutAt, fronts}
 use Rattle.paper.proofs.Queries.{freeBase, freeBoolean, variable, write, conditional, read, equality, equals, differs, holds, fails, concludes, times}
 use Rattle.paper.proofs.Queries.{k1, k2, k3, k4With, k6With, k9, k10, k11tag, k11short, k11length, k12}
 use Rattle.paper.proofs.Queries.{o1, o2, o3, o4, o5, o6, o7, o8, o9, o10, o11, o12, o13, oneRead, twoReads, basesTwo, arraysTwo}
 use Rattle.paper.proofs.Queries.{o14, o15, o16, o17, o18, o19, o20, o21}
 use Rattle.paper.proofs.Fixed.{fixedLemmas, fixedWays, fixedRefusals, fixedValues}
+use Rattle.paper.proofs.Growing.{cutting, growing}
 
 -- O10 at two bits: 5 base terms are variables 1 to 10, 2 Booleans 11 and 12, and the fresh ones 13 to 16
 abbrev pub o10Literals : List Literal
@@ -326,7 +327,7 @@ readings =
 unfoldable pub table : List Row
 table =
     ofThePaper ++ lemmas ++ ways ++ heads ++ limits ++ fields ++ cells ++ listings ++ rooms ++ meanings ++ clauses ++ readings
-    ++ fixedLemmas ++ fixedWays ++ fixedRefusals ++ fixedValues
+    ++ fixedLemmas ++ fixedWays ++ fixedRefusals ++ fixedValues ++ cutting ++ growing
 
 abbrev pub answers : Row → Answer
 answers (one is other) = one
@@ -335,5 +336,5 @@ abbrev pub says : Row → Answer
 says (one is other) = other
 
 pub known : map answers table ≡ map says table
-unfolding itemAt given faults extend load sources edges openEdges distances reachesAt reaches pairs conflicts conflict hypotheses isFixed path lemma model namedClauses freshCount clausesOf Listing.cells check look list writeClauses table ofThePaper lemmas ways heads limits fields cells listings rooms meanings clauses readings fixedLemmas fixedWays fixedRefusals fixedValues consistentIn conflictIn refusedIn clausesCount clausesIn noClauses cell noCell cellsIn noCells count
+unfolding itemAt given faults extend load sources edges openEdges distances reachesAt reaches pairs conflicts conflict hypotheses isFixed path lemma model namedClauses freshCount clausesOf Listing.cells check look list writeClauses table ofThePaper lemmas ways heads limits fields cells listings rooms meanings clauses readings fixedLemmas fixedWays fixedRefusals fixedValues cutting growing consistentIn conflictIn refusedIn clausesCount clausesIn noClauses cell noCell cellsIn noCells cutAt fronts count
 known = refl

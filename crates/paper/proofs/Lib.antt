@@ -2,4 +2,5 @@
 pub mod Queries
 pub mod Rows
 pub mod Fixed
+pub mod Growing
 pub mod Known

@@ -2,13 +2,14 @@
 -- Assumes nothing.
 use Prim.Native.Nat.{ℕ}
 use mathlib.Core.Bool.{Bool}
-use mathlib.Core.List.{List, [], _∷_, _++_}
+use mathlib.Core.List.{List, [], _∷_, _++_, map}
 use mathlib.Core.Option.{Option}
 use lib.IntN.{ℤ, pos}
-use lib.ListN.{length}
+use lib.ListN.{length, take}
 use Rattle.paper.specs.Load.{Loaded}
 use Rattle.paper.specs.Lemma.{Literal}
 use Rattle.paper.specs.Cells.{Cell}
+use Rattle.paper.specs.Fronts.{cuts}
 use Rattle.paper.specs.Answers.{Verdict, Checked, Looked, Listed, Written, check, look, list, writeClauses}
 
 -- what a call answers, or a definition gives; of the clause writer, where that is enough, how many numbers and not which
@@ -24,6 +25,8 @@ pub data Answer : Type 0 where
   loadedAs : Loaded → Answer
   valueIs : ℕ → Answer
   truthIs : Bool → Answer
+  placesAre : List ℕ → Answer
+  verdictsAre : List Verdict → Answer
 
 unfoldable pub count : Written → Answer
 count answer = counted (answer .refusal) (answer .offset) (answer .variables) (answer .clauses) (length (answer .written))
@@ -83,6 +86,13 @@ module _ (bytes : List ℕ) where
   unfoldable pub noClauses : (room refusal offset : ℕ) → Row
   noClauses room refusal offset =
       written (writeClauses 32 bytes room) is written (record { refusal = refusal; offset = offset; variables = 0; clauses = 0; written = [] })
+
+  -- 02, E7: the places where it can be cut, and the verdicts on its fronts, shortest first
+  unfoldable pub cutAt : List ℕ → Row
+  cutAt places = placesAre (cuts 32 bytes) is placesAre places
+
+  unfoldable pub fronts : List Verdict → Row
+  fronts verdicts = verdictsAre (map (λ n. check 32 (take n bytes) 343 .verdict) (cuts 32 bytes)) is verdictsAre verdicts
 
 -- "each clause closed by 0": numbers below zero are those of `negsuc`, whose 0 is -1
 abbrev pub closed : List ℤ → List ℤ

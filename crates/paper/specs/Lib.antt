@@ -14,3 +14,4 @@ pub mod Cells
 pub mod Clauses
 pub mod Reading
 pub mod Answers
+pub mod Fronts
