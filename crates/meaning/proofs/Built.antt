@@ -143,7 +143,7 @@ pub load-field : (at : ℕ) (kind : Kind) (numbers : List ℕ) (rest : List Item
 load-field at kind numbers rest query = unless-refused (firstMet (faults query kind numbers)) (λ refusal. Loaded.refused refusal at) (loadItems rest (extend query kind numbers))
 
 -- what is refused is not accepted
-refused-accepted : {A : Type 0} {loaded : Loaded} {refusal at : ℕ} {query : Query} → loaded ≡ Loaded.refused refusal at → loaded ≡ Loaded.accepted query → A
+pub refused-accepted : {A : Type 0} {loaded : Loaded} {refusal at : ℕ} {query : Query} → loaded ≡ Loaded.refused refusal at → loaded ≡ Loaded.accepted query → A
 refused-accepted e other = let never : _≡_ {A = ℕ} 0 1 = cc in absurd (omega arith)
 
 -- what is loaded of items is built from what was there before

@@ -5,7 +5,7 @@ use Prim.Native.Nat.{ℕ, _+_, _*_, _<_, _≤_}
 use mathlib.Core.Path.{_≡_}
 use mathlib.Core.Logic.{_⊎_, _↔_, _≢_}
 use mathlib.Core.Bool.{Bool, true}
-use mathlib.Core.List.{List, map}
+use mathlib.Core.List.{List, _++_, map}
 use mathlib.Core.Option.{some}
 use lib.IntN.{ℤ}
 use lib.ListN.{length}
@@ -22,6 +22,7 @@ use Rattle.paper.specs.Model.{model}
 use Rattle.paper.specs.Cells.{Cell, cells}
 use Rattle.paper.specs.Clauses.{clausesOf, freshCount, ofBits}
 use Rattle.paper.specs.Reading.{readRun}
+use Rattle.paper.specs.Fronts.{IsFront}
 use Rattle.paper.specs.Answers.{Verdict, check, checkRefused, look, lookRefused, writeClauses, writeRefused}
 use Rattle.meaning.proofs.Built.{AreBytes}
 use Rattle.meaning.proofs.Accepted.{accepted}
@@ -48,6 +49,9 @@ use Rattle.meaning.proofs.Costs.{pairsBy, conflictBy, checkBy, Alike, A
 use Rattle.meaning.proofs.Parts as Parts
 use Rattle.meaning.proofs.Before as Before
 use Rattle.meaning.proofs.Before.{checkWith, writeWith}
+use Rattle.meaning.proofs.Begins as Begins
+use Rattle.meaning.proofs.Begins.{Begins}
+use Rattle.meaning.proofs.Grown as Grown
 
 -- Demand 1. Every string of bytes has one answer, since the calls are functions of it. What is refused as it is read is refused by a
 -- number of 01's: 1 where it is too long, or else 2 to 9, at a place inside.
@@ -234,3 +238,45 @@ module _ (cost : Guard → ℕ) (positive : (guard : Guard) → 0 < cost guard) 
 
   pub check-any-cost-343 : 343 ≤ room → Alike (checkBy cost w bytes room) (check w bytes room)
   check-any-cost-343 = Costs.check-any-343 cost positive w bytes are-bytes room
+
+-- 02, E7. An accepted query, and a front of it, cut between two fields: it ends where a field of the whole begins, or at its end.
+module _ (w : ℕ) (bytes : List ℕ) (query : Query) (are-bytes : AreBytes bytes) (loaded : load w bytes ≡ Loaded.accepted query)
+    (front : List ℕ) (cut : IsFront w front bytes) where
+  -- It is accepted, and its terms and its guess are the first of the whole's.
+  pub front-accepted : (part : Query) × (load w front ≡ Loaded.accepted part) × Begins part query
+  front-accepted = Grown.part w bytes query are-bytes loaded front cut
+
+  -- Walks of the front are walks of the whole.
+  pub walks-stay : (part : Query) → load w front ≡ Loaded.accepted part → (source : Source) → source ∈ sources (part .terms) → (a : ℕ)
+      → Reaches (part .terms) (guessOf part) source a → Reaches (query .terms) (guessOf query) source a
+  walks-stay = Grown.walks-stay w bytes query are-bytes loaded front cut
+
+  -- If the front is in conflict, so is the whole, with a buffer of its own that holds its lemma, as 343 bytes always do.
+  pub conflict-stays : (room other : ℕ) → check w front room .verdict ≡ Verdict.inConflict → length (check w bytes 343 .written) ≤ other
+      → check w bytes other .verdict ≡ Verdict.inConflict
+  conflict-stays = Grown.conflict-stays w bytes query are-bytes loaded front cut
+
+  pub conflict-stays-343 : (room other : ℕ) → check w front room .verdict ≡ Verdict.inConflict → 343 ≤ other → check w bytes other .verdict ≡ Verdict.inConflict
+  conflict-stays-343 = Grown.conflict-stays-343 w bytes query are-bytes loaded front cut
+
+  -- If the whole is consistent, so is the front, and memories that fit the whole fit the front: those that the lookup gives are such.
+  pub consistent-fronts : (room other : ℕ) → check w bytes room .verdict ≡ Verdict.consistent → check w front other .verdict ≡ Verdict.consistent
+  consistent-fronts = Grown.consistent-fronts w bytes query are-bytes loaded front cut
+
+  pub lookup-interprets-front : (part : Query) → load w front ≡ Loaded.accepted part → (room : ℕ) → check w bytes room .verdict ≡ Verdict.consistent
+      → Interpretation w (part .terms) (guessOf part) (λ a x. look w bytes a x .value)
+  lookup-interprets-front part is room quiet =
+      Grown.memories-fit w bytes query are-bytes loaded front cut part is (λ a x. look w bytes a x .value) (lookup-interprets w bytes query are-bytes loaded room quiet)
+
+  -- What is read off the bytes written for the front holds in every interpretation of the whole's terms and is false under the whole's guess.
+  pub front-rules-out : (room : ℕ) → check w front room .verdict ≡ Verdict.inConflict → Lemma w query (check w front room .written)
+  front-rules-out = Grown.front-rules-out w bytes query are-bytes loaded front cut
+
+-- An accepted string of bytes is a front of every string that begins with it: the cuts of an accepted query are where its fronts are accepted.
+pub accepted-front : (w : ℕ) (front rest : List ℕ) (part : Query) → load w front ≡ Loaded.accepted part → IsFront w front (front ++ rest)
+accepted-front = Begins.accepted-front
+
+-- "Growing a query can't mend it": whatever bytes are put after a query in conflict, the verdict is never "consistent", whatever the buffers.
+pub never-mended : (w : ℕ) (front rest : List ℕ) → AreBytes (front ++ rest) → (room other : ℕ) → check w front room .verdict ≡ Verdict.inConflict
+    → check w (front ++ rest) other .verdict ≡ Verdict.consistent → ⊥
+never-mended = Grown.never-mended

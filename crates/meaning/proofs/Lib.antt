@@ -39,4 +39,8 @@ pub mod Answered
 pub mod Parts
 pub mod Costs
 pub mod Before
+pub mod Fronts
+pub mod Begins
+pub mod Growth
+pub mod Grown
 pub mod Headline

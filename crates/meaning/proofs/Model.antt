@@ -52,7 +52,7 @@ module _ (terms : List Term) (numbered : Numbered terms) (g : Assignment) where
 
   module _ (quiet : conflict terms g ≡ none) where
     -- whatever source reaches the origin of another at its index value has its value
-    agreed : (s t : Source) → s ∈ sources terms → t ∈ sources terms → indexValue g s ≡ indexValue g t → reachesAt terms g (indexValue g t) s (t .origin) ≡ true
+    pub agreed : (s t : Source) → s ∈ sources terms → t ∈ sources terms → indexValue g s ≡ indexValue g t → reachesAt terms g (indexValue g t) s (t .origin) ≡ true
         → g .value (s .value) ≡ g .value (t .value)
     unfolding reaches conflict
     agreed s t s-here t-here same reached = go (apart (sources terms) quiet s-here t-here)
