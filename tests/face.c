@@ -1,6 +1,7 @@
 /* The exported functions on the stored queries, from C: tests/face.c FOLDER NAME.. reads FOLDER/NAME.hex and what the programs print for it
  * (NAME.verdict, NAME.clauses, NAME.lookup-ARRAY-INDEX), makes of it what each function is to return, report and write, and compares,
  * for buffers that hold the answer, for every shorter answer buffer, and for four shorter runs of numbers: none, one, half, one too few.
+ * An accepted query is also cut at every byte.
  * The last line is 'N passed, M failed'.
  */
 #include <dirent.h>
@@ -190,6 +191,27 @@ static void lookups(const char *name, const uint8_t *query, size_t length) {
     closedir(files);
 }
 
+/* 02, E7: a front of an accepted query is the same pointer with a lesser length. Cut where a field begins, or at the end, it is accepted, and
+ * from the first that is in conflict on all are; cut inside a field it is refused by 2, at that field. */
+static void fronts(const char *name, const uint8_t *query, size_t length) {
+    uint8_t answer[ZUNIDELO_LEMMA_BYTES];
+    uint64_t report[4];
+    uint32_t verdict = ZUNIDELO_CONSISTENT;
+    size_t field = 0, next = 0;
+    if (zunidelo_check(query, length, answer, sizeof answer, report) == ZUNIDELO_REFUSED) return;
+    for (size_t cut = 0; cut <= length; cut++) {
+        uint32_t r = zunidelo_check(query, cut, answer, sizeof answer, report);
+        if (cut < next) {
+            count(r == ZUNIDELO_REFUSED && report[0] == 2 && report[1] == field, name, "a cut inside a field", cut);
+            continue;
+        }
+        count(r == verdict || (r == ZUNIDELO_CONFLICT && verdict == ZUNIDELO_CONSISTENT), name, "a cut between two fields", cut);
+        verdict = r;
+        field = cut;
+        if (cut < length) next = cut + 3 + 256 * (size_t)query[cut + 1] + query[cut + 2];
+    }
+}
+
 int main(int words, char **word) {
     static uint8_t query[QUERY];
     if (words < 3) return 2;
@@ -199,6 +221,7 @@ int main(int words, char **word) {
         checks(word[k], query, length);
         writes(word[k], query, length);
         lookups(word[k], query, length);
+        fronts(word[k], query, length);
     }
     printf("%u passed, %u failed\n", passed, failed);
     return failed == 0 && passed > 0 ? 0 : 1;

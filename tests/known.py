@@ -1,6 +1,6 @@
 #!/usr/bin/env python3
-"""Makes the known queries of 01 (K1 to K12), some on which path is chosen, some with fixed numbers, and a few at 01's bounds, with what the
-three programs print.
+"""Makes the known queries of 01 (K1 to K12), some on which path is chosen, some with fixed numbers, one that grows, and a few at 01's bounds, with what
+the three programs print.
 
   tests/known.py           write tests/known/, examples/, and what the programs' crates are run on
   tests/known.py --check   exit 1 where what stands there is something else
@@ -264,6 +264,14 @@ known("fixed-256", [fixed(n) for n in range(256)], ["consistent 0"], None, [(0, 
 known("fixed-257", [fixed(n) for n in range(257)], ["refused 5 1792"], None, [(0, 0, "refused 5 1792")])
 WITNESS = [fixed(7), variable(), variable(), read(7, 0, 0), read(7, 1, 0), equality(0, 1, 1, 0, 2)]
 known("fixed-witness", WITNESS, ["refused 8 35"], None, [(0, 7, "refused 8 35")])
+
+# --- growing a query (02, E7): the first six fields are consistent; with the seventh sources 1 and 2 conflict, and so the conflict stays with
+# the eighth, by which source 0 conflicts with it: another lemma, and a longer one. All sources reach the array that they read alone.
+GROWN = [base(5), base(5), variable(), variable(), read(6, 0, 0), read(7, 1, 0), read(9, 1, 0), read(8, 0, 1)]
+known("front-consistent", GROWN[:6], ["consistent 2", "0 5 6", "1 5 7"], None, [(0, 5, "6"), (1, 5, "7"), (1, 6, "0")])
+known("front", GROWN[:7], ["conflict 3", "then 3 4"], "p cnf 161 65", [(0, 5, "refused 12 0")])
+known("grown", GROWN, ["conflict 4", "eq 0 1", "then 2 5"], "p cnf 225 129", [(0, 5, "refused 12 0")])
+known("grown-refused", GROWN + [bytes.fromhex("090000")], ["refused 3 64"], None, [(0, 5, "refused 3 64")])
 
 # --- what rt runs the programs on
 RUNS = {
