@@ -7,7 +7,7 @@ use native.Mathlib.Omega.{arith}
 use mathlib.Core.Path.{_≡_, sym, ap, ap₂, _∙_, subst}
 use mathlib.Core.Logic.{_⊎_, ⊎-map, _↔_}
 use mathlib.Core.Bool.{Bool, not}
-use mathlib.Core.List.{List, map}
+use mathlib.Core.List.{List, _++_, map}
 use mathlib.Core.Option.{some}
 use lib.Dec.{eqb}
 use lib.IntN.{ℤ}
@@ -20,6 +20,7 @@ use Rattle.paper.specs.Interpretations as Paper
 use Rattle.paper.specs.Load.{Loaded, load}
 use Rattle.paper.specs.Cells.{Cell, cells}
 use Rattle.paper.specs.Reading.{readRun}
+use Rattle.paper.specs.Fronts.{IsFront}
 use Rattle.paper.specs.Answers.{check, look, listLoaded, list, writeClauses}
 use Rattle.meaning.proofs.Built.{AreBytes}
 use Rattle.meaning.proofs.Whole.{guessOf, pairsOf}
@@ -35,6 +36,7 @@ use Rattle.meaning.proofs.Answered as Answered
 use Rattle.meaning.proofs.Fixed.{wholeLemma}
 use Rattle.meaning.proofs.Before as Before
 use Rattle.meaning.proofs.Before.{checkWith, writeWith}
+use Rattle.meaning.proofs.Grown as Grown
 use Rattle.query.specs.declared.Refusal.{Refusal}
 use Rattle.checker.specs.declared.Totals.{Totals}
 use Rattle.checker.specs.declared.Checked.{Checked}
@@ -48,6 +50,7 @@ use Rattle.checker.specs.declared.Written.the-variants.{Refused as NotWr
 use Rattle.checker.specs.Reports.{reportOf, reported, lookReportOf, writeReportOf, writeReported, CheckedAs, CheckAllows, LookAllows, ListAllows, WrittenAs, WriteAllows}
 use Rattle.checker.specs.Reports.{listReportOf, roomOf, beside}
 use Rattle.checker.proofs.Looks.{room-both}
+use Rattle.checker.proofs.Told as Told
 use Rattle.checker.proofs.Told.{checkedBy, checkTold, check-told, lookTold, look-told, listTold, list-told, indices-over, values-over, beside-with, writtenBy, writeTold, write-told, front, rest, check-over, write-over}
 
 -- "two results allowed by it are equal", with their buffers
@@ -261,3 +264,54 @@ module _ (bytes : List ℕ) (query : Query) (are-bytes : AreBytes bytes) (loaded
 
     pub clauses-as-before : (before after : List ℤ) (r : Written) → WriteAllows bytes before after r → WrittenAs (writeWith wholeLemma 32 bytes (length before)) before after r
     clauses-as-before before after r allowed = subst (λ answer. WrittenAs answer before after r) (Before.answered-before 32 bytes query loaded none-fixed (length before) .1) allowed
+
+-- 02, E7. An accepted query, and a front of it, cut between two fields: it ends where a field of the whole begins, or at its end. What is lent
+-- for the one may be larger or smaller than what is lent for the other.
+module _ (bytes : List ℕ) (query : Query) (are-bytes : AreBytes bytes) (loaded : load 32 bytes ≡ Loaded.accepted query)
+    (front : List ℕ) (cut : IsFront 32 front bytes) where
+  -- The front is accepted: with 343 bytes its check is answered.
+  pub front-answered : (before after : List ℕ) (r : Checked) → CheckAllows front before after r → 343 ≤ length before
+      → ((pairs : ℕ) × (r ≡ Consistent pairs)) ⊎ ((pairs long : ℕ) × (r ≡ Conflict pairs long))
+  front-answered before after r allowed fits =
+      let (part, is, begins) = Grown.part 32 bytes query are-bytes loaded front cut in
+      ⊎-map (λ quiet. (pairsOf part, quiet)) (λ (long, clash). (pairsOf part, long, clash))
+      (check-answered front part (Grown.part-bytes 32 bytes query are-bytes loaded front cut) is before after r allowed fits)
+
+  -- If `check` answers "conflict" for the front, it does for the whole; or it is lent less than 343 bytes there, and its lemma is longer.
+  pub conflict-stays : (before after : List ℕ) (pairs long : ℕ) → CheckAllows front before after (Conflict pairs long)
+      → (other other-after : List ℕ) (r : Checked) → CheckAllows bytes other other-after r
+      → ((pairs long : ℕ) × (r ≡ Conflict pairs long)) ⊎ ((length other < 343) × (r ≡ Refused (record { number = 10; offset = 0 })))
+  conflict-stays before after pairs long clash other other-after r allowed =
+      let answer = check 32 bytes (length other) in
+      ⊎-map (λ stays. (answer .pairs, length (answer .written), check-told allowed ∙ ap (λ one. checkedBy one (reported answer)) stays))
+      (λ (small, is). (small, check-told allowed ∙ ap checkTold is))
+      (Grown.conflict-or-short 32 bytes query are-bytes loaded front cut (length before) (length other) (sym (ap (λ report. report .verdict) (clash .report))))
+
+  -- If it answers "consistent" for the whole, it does for the front, and what `lookup` answers for the whole is the memories of an
+  -- interpretation of the front's terms too.
+  pub consistent-fronts : (before after : List ℕ) (pairs : ℕ) → CheckAllows bytes before after (Consistent pairs)
+      → (other other-after : List ℕ) (r : Checked) → CheckAllows front other other-after r → (fewer : ℕ) × (r ≡ Consistent fewer)
+  consistent-fronts before after pairs quiet other other-after r allowed =
+      let answer = check 32 front (length other) in
+      let calm = Grown.consistent-fronts 32 bytes query are-bytes loaded front cut (length before) (length other) (sym (ap (λ report. report .verdict) (quiet .report))) in
+      (answer .pairs, check-told allowed ∙ ap (λ one. checkedBy one (reported answer)) calm)
+
+  pub lookup-interprets-front : Paper.Consistent 32 query → (answers : (a x : ℕ) → Looked)
+      → ((a x : ℕ) → a < 2 ^ 64 → x < 2 ^ 64 → LookAllows bytes a x (answers a x)) → (part : Query) → load 32 front ≡ Loaded.accepted part
+      → Interpretation 32 (part .terms) (guessOf part) (λ a x. lookReportOf (answers a x) .value)
+  lookup-interprets-front consistent answers allowed part is =
+      Grown.memories-fit 32 bytes query are-bytes loaded front cut part is (λ a x. lookReportOf (answers a x) .value)
+      (lookup-interprets bytes query are-bytes loaded consistent answers allowed)
+
+  -- What is read off the bytes that `check` wrote for the front is a lemma that holds in every interpretation of the whole's terms and is
+  -- false under the whole's guess.
+  pub front-rules-out : (before after : List ℕ) (pairs long : ℕ) → CheckAllows front before after (Conflict pairs long) → Lemma 32 query (take long after)
+  front-rules-out before after pairs long clash =
+      subst (Lemma 32 query) (sym (Told.front (check-over clash)))
+      (Grown.front-rules-out 32 bytes query are-bytes loaded front cut (length before) (sym (ap (λ report. report .verdict) (clash .report))))
+
+-- "Growing a query can't mend it": once `check` answers "conflict", it never answers "consistent" with more bytes after it, whatever they are.
+pub never-mended : (front rest : List ℕ) → AreBytes (front ++ rest) → (before after : List ℕ) (pairs long : ℕ) → CheckAllows front before after (Conflict pairs long)
+    → (other other-after : List ℕ) (more : ℕ) → CheckAllows (front ++ rest) other other-after (Consistent more) → ⊥
+never-mended front rest are-bytes before after pairs long clash other other-after more quiet =
+    Grown.never-mended 32 front rest are-bytes (length before) (length other) (sym (ap (λ report. report .verdict) (clash .report))) (sym (ap (λ report. report .verdict) (quiet .report)))

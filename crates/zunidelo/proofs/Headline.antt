@@ -7,7 +7,7 @@ use native.Mathlib.Omega.{arith}
 use mathlib.Core.Path.{_≡_, sym, ap, _∙_, subst}
 use mathlib.Core.Logic.{_⊎_, ⊎-elim, ⊎-map, _↔_, _≢_}
 use mathlib.Core.Bool.{false, not}
-use mathlib.Core.List.{List, [], _∷_}
+use mathlib.Core.List.{List, [], _∷_, _++_}
 use lib.Dec.{eqb}
 use lib.IntN.{ℤ}
 use lib.ListN.{length, take, drop}
@@ -16,6 +16,7 @@ use Rattle.paper.specs.Terms.{given, Query}
 use Rattle.paper.specs.Interpretations.{Interpretation}
 use Rattle.paper.specs.Interpretations as Paper
 use Rattle.paper.specs.Load.{Loaded, load}
+use Rattle.paper.specs.Fronts.{IsFront}
 use Rattle.paper.specs.Answers.{Verdict, checkRefused, writeRefused, writtenOver}
 use Rattle.meaning.proofs.Built.{AreBytes}
 use Rattle.meaning.proofs.Whole.{guessOf, pairsOf}
@@ -25,7 +26,9 @@ use Rattle.meaning.proofs.Verdict.{fits-none}
 use Rattle.meaning.proofs.Demands as Demands
 use Rattle.meaning.proofs.Demands.{Lemma, Clausal}
 use Rattle.meaning.proofs.Answered as Answered
+use Rattle.meaning.proofs.Grown as Grown
 use Rattle.checker.specs.Reports.{reported, lookReported, writeReported}
+use Rattle.checker.proofs.Told as Over
 use Rattle.checker.proofs.Told.{front, rest}
 use Rattle.zunidelo.specs.Told.{place, returned, unlessRefused, checkNumbers, lookNumbers, writeNumbers, CheckTells, LookTells, WriteTells}
 use Rattle.zunidelo.proofs.Tells.{returned-consistent, returned-conflict, returned-written, check-over, write-over, told-by-room}
@@ -165,3 +168,51 @@ module _ (bytes : List ℕ) (query : Query) (are-bytes : AreBytes bytes) (loaded
       rw (front (check-over checked), front (write-over told), ap (λ numbers. place numbers 2) (told .reports), ap (λ numbers. place numbers 3) (told .reports))
       (Demands.clauses-exactly 32 bytes query are-bytes loaded (length before) (returned-conflict _ (sym (checked .returns) ∙ one)) (length run-before)
       (returned-written _ (sym (told .returns) ∙ run-one)))
+
+-- 02, E7. An accepted query, and a front of it, cut between two fields: it ends where a field of the whole begins, or at its end. In C that is
+-- the same pointer with a lesser length. What is lent for the one may be larger or smaller than what is lent for the other.
+module _ (bytes : List ℕ) (query : Query) (are-bytes : AreBytes bytes) (loaded : load 32 bytes ≡ Loaded.accepted query)
+    (front : List ℕ) (cut : IsFront 32 front bytes) where
+  -- The front is accepted: with 343 bytes its check returns 0 or 1.
+  pub front-told-answered : (before after report : List ℕ) (r : ℕ) → CheckTells front before after report r → 343 ≤ length before → (r ≡ 0) ⊎ (r ≡ 1)
+  front-told-answered before after report r told fits =
+      let (part, is, begins) = Grown.part 32 bytes query are-bytes loaded front cut in
+      check-told-answered front part (Grown.part-bytes 32 bytes query are-bytes loaded front cut) is before after report r told fits .0
+
+  -- Where 1 is returned for the front, it is for the whole; or that call is lent less than 343 bytes, its lemma is longer, and it is refused 10.
+  pub one-stays : (before after report : List ℕ) (r : ℕ) → CheckTells front before after report r → r ≡ 1
+      → (other other-after other-report : List ℕ) (s : ℕ) → CheckTells bytes other other-after other-report s
+      → (s ≡ 1) ⊎ ((length other < 343) × (s ≡ 2) × (other-report ≡ 10 ∷ 0 ∷ 0 ∷ 0 ∷ []))
+  one-stays before after report r told one other other-after other-report s other-told =
+      ⊎-map (λ stays. other-told .returns ∙ ap returned stays)
+      (λ (small, is). (small, other-told .returns ∙ ap (λ answer. returned (answer .verdict)) is, other-told .reports ∙ ap (λ answer. checkNumbers (reported answer)) is))
+      (Grown.conflict-or-short 32 bytes query are-bytes loaded front cut (length before) (length other) (returned-conflict _ (sym (told .returns) ∙ one)))
+
+  -- Where 0 is returned for the whole, it is for the front, and report[2] of `zunidelo_lookup`, asked of the whole, is the memories of an
+  -- interpretation of the front's terms too.
+  pub zero-fronts : (before after report : List ℕ) (r : ℕ) → CheckTells bytes before after report r → r ≡ 0
+      → (other other-after other-report : List ℕ) (s : ℕ) → CheckTells front other other-after other-report s → s ≡ 0
+  zero-fronts before after report r told zero other other-after other-report s other-told =
+      other-told .returns
+      ∙ ap returned
+      (Grown.consistent-fronts 32 bytes query are-bytes loaded front cut (length before) (length other) (returned-consistent _ (sym (told .returns) ∙ zero)))
+
+  pub look-told-interprets-front : Paper.Consistent 32 query → (reports : (a x : ℕ) → List ℕ) (r : (a x : ℕ) → ℕ)
+      → ((a x : ℕ) → a < 2 ^ 64 → x < 2 ^ 64 → LookTells bytes a x (reports a x) (r a x)) → (part : Query) → load 32 front ≡ Loaded.accepted part
+      → Interpretation 32 (part .terms) (guessOf part) (λ a x. place (reports a x) 2)
+  look-told-interprets-front consistent reports r told part is =
+      Grown.memories-fit 32 bytes query are-bytes loaded front cut part is (λ a x. place (reports a x) 2)
+      (look-told-interprets bytes query are-bytes loaded consistent reports r told)
+
+  -- Where 1 is returned for the front, what is read off the first report[3] bytes is a lemma that holds in every interpretation of the whole's
+  -- terms and is false under the whole's guess.
+  pub one-rules-out-whole : (before after report : List ℕ) (r : ℕ) → CheckTells front before after report r → r ≡ 1 → Lemma 32 query (take (place report 3) after)
+  one-rules-out-whole before after report r told one =
+      subst (Lemma 32 query) (sym (Over.front (check-over told)))
+      (Grown.front-rules-out 32 bytes query are-bytes loaded front cut (length before) (returned-conflict _ (sym (told .returns) ∙ one)))
+
+-- Once 1 is returned, 0 never is with more bytes after it, whatever they are.
+pub one-never-mended : (front rest : List ℕ) → AreBytes (front ++ rest) → (before after report : List ℕ) (r : ℕ) → CheckTells front before after report r → r ≡ 1
+    → (other other-after other-report : List ℕ) (s : ℕ) → CheckTells (front ++ rest) other other-after other-report s → s ≡ 0 → ⊥
+one-never-mended front rest are-bytes before after report r told one other other-after other-report s other-told zero =
+    Grown.never-mended 32 front rest are-bytes (length before) (length other) (returned-conflict _ (sym (told .returns) ∙ one)) (returned-consistent _ (sym (other-told .returns) ∙ zero))
