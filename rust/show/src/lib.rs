@@ -4,6 +4,7 @@
 
 mod dot;
 mod field;
+mod front;
 mod graph;
 mod hex;
 mod listing;
@@ -16,7 +17,6 @@ mod walk;
 pub use dot::dot;
 pub use hex::{from_hex, to_hex, HexFault};
 
-use graph::Graph;
 use walk::Walk;
 use zunidelo::check;
 
@@ -29,9 +29,8 @@ pub fn show(query: &[u8]) -> String {
     match checked {
         Err(_) => fields,
         Ok(verdict) => {
-            let graph = Graph::of(&walk.fields);
             let space = if fields.is_empty() { "" } else { "\n" };
-            fields + space + &verdict::words(query, &graph, &verdict)
+            fields + space + &verdict::words(query, &walk.fields, &verdict)
         }
     }
 }

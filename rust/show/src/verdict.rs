@@ -1,15 +1,21 @@
 //! The verdict in words: how many pairs and cells, with what the cells hold,
-//! or the lemma, one literal a line, and what is left out of it.
+//! or the lemma, one literal a line, what is left out of it, and since which
+//! field there is a conflict.
 
+use crate::front::conflict_arises;
 use crate::graph::Graph;
 use crate::path::Path;
+use crate::walk::Placed;
 use std::fmt::Write;
 use zunidelo::{lookup, Lemma, Literal, Verdict};
 
-pub fn words(query: &[u8], graph: &Graph, verdict: &Verdict) -> String {
+pub fn words(query: &[u8], fields: &[Placed], verdict: &Verdict) -> String {
+    let graph = Graph::of(fields);
     match verdict {
-        Verdict::Consistent { pairs } => consistent(query, graph, *pairs),
-        Verdict::Conflict { pairs, lemma } => conflict(graph, *pairs, lemma),
+        Verdict::Consistent { pairs } => consistent(query, &graph, *pairs),
+        Verdict::Conflict { pairs, lemma } => {
+            conflict(&graph, *pairs, lemma) + &since(query, fields)
+        }
     }
 }
 
@@ -58,6 +64,22 @@ fn conflict(graph: &Graph, pairs: usize, lemma: &Lemma) -> String {
     }
     let lines: String = lines.into_iter().map(|line| format!("    {line}\n")).collect();
     format!("conflict: no memories fit. {}. The lemma:\n{lines}", counted(pairs, "pair"))
+}
+
+/// Where a proper front is in conflict, so that no growing mends it: since when.
+fn since(query: &[u8], fields: &[Placed]) -> String {
+    let place = conflict_arises(query, fields);
+    let front = place + 1;
+    if front == fields.len() {
+        return String::new();
+    }
+    format!(
+        "    in conflict since byte {}: the first {}, of {}, are in conflict already, \
+         and so is every accepted query that begins with them\n",
+        fields[place].offset,
+        counted(front, "field"),
+        fields.len()
+    )
 }
 
 /// What the literal says, with a name for each base term.
