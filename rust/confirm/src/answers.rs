@@ -1,5 +1,6 @@
 //! What the product answers about a query: all that a solver can confirm.
 
+use crate::front::Front;
 use crate::lemma::{Lemma, Literal};
 use judge::field::{decode, Field, Series};
 use tester::library::index_values;
@@ -17,30 +18,34 @@ pub struct Answers {
     /// Of a query in conflict.
     pub lemma: Option<Lemma>,
     pub clauses: Option<Clauses>,
+    /// A proper front, with what is to be confirmed of the whole.
+    pub front: Option<Front>,
 }
 
 /// Asks the library; a query that it refuses leaves nothing to confirm.
 pub fn ask(query: &[u8]) -> Result<Answers, Refusal> {
-    let verdict = zunidelo::check(query)?;
+    let lemma = lemma_of(query)?;
+    let consistent = lemma.is_none();
     let (fields, _) = decode(query);
-    let mut answers = Answers { fields, consistent: true, model: None, lemma: None, clauses: None };
-    match verdict {
-        Verdict::Consistent { .. } => answers.model = Some(model(query, &answers.fields)?),
-        Verdict::Conflict { lemma, .. } => {
-            answers.consistent = false;
-            answers.lemma = Some(taken(&lemma));
-            answers.clauses = Some(zunidelo::clauses(query)?);
-        }
-    }
-    Ok(answers)
+    let model = if consistent { Some(model(query, &fields)?) } else { None };
+    let clauses = if consistent { None } else { Some(zunidelo::clauses(query)?) };
+    let front = Front::of(&fields, consistent);
+    Ok(Answers { fields, consistent, model, lemma, clauses, front })
+}
+
+/// The lemma of a query in conflict, and nothing of a consistent one.
+pub fn lemma_of(query: &[u8]) -> Result<Option<Lemma>, Refusal> {
+    Ok(match zunidelo::check(query)? {
+        Verdict::Consistent { .. } => None,
+        Verdict::Conflict { lemma, .. } => Some(taken(&lemma)),
+    })
 }
 
 /// Every array, looked up at every index that a source has.
 fn model(query: &[u8], fields: &[Field]) -> Result<Vec<Memory>, Refusal> {
     let indices = index_values(fields);
-    let arrays = fields.iter().filter(|field| field.gives() == Series::Array).count() as u64;
     let mut model = Vec::new();
-    for array in 0..arrays {
+    for array in 0..array_count(fields) as u64 {
         let mut memory = Memory::new();
         for index in &indices {
             let value = zunidelo::lookup(query, array, u64::from(*index))?;
@@ -49,6 +54,10 @@ fn model(query: &[u8], fields: &[Field]) -> Result<Vec<Memory>, Refusal> {
         model.push(memory);
     }
     Ok(model)
+}
+
+pub fn array_count(fields: &[Field]) -> usize {
+    fields.iter().filter(|field| field.gives() == Series::Array).count()
 }
 
 fn taken(lemma: &zunidelo::Lemma) -> Lemma {

@@ -2,7 +2,7 @@
 //! Each is named by what goes wrong.
 
 use crate::answers::Answers;
-use crate::lemma::Literal;
+use crate::lemma::{Lemma, Literal};
 use crate::questions::Kind;
 use judge::field::{decode, encode, Field};
 use judge::graph::fixed_bases;
@@ -25,9 +25,12 @@ pub enum Fault {
     FixedTakenAsFree,
     /// A comparison of a fixed number with another term is left out.
     LeftOutByOne,
+    /// In the lemma of a front, as in the next.
+    FrontLiteralDropped,
+    FrontLiteralTurned,
 }
 
-pub const FAULTS: [Fault; 12] = [
+pub const FAULTS: [Fault; 14] = [
     Fault::VerdictFlipped,
     Fault::LiteralDropped,
     Fault::LiteralTurned,
@@ -40,6 +43,8 @@ pub const FAULTS: [Fault; 12] = [
     Fault::CellFilled,
     Fault::FixedTakenAsFree,
     Fault::LeftOutByOne,
+    Fault::FrontLiteralDropped,
+    Fault::FrontLiteralTurned,
 ];
 
 impl Fault {
@@ -58,7 +63,9 @@ impl Fault {
             Fault::SignTurned => {
                 &[Kind::ClausesFailGuess, Kind::ClausesSayLemma, Kind::LemmaSaysClauses]
             }
-            Fault::CellWrong | Fault::CellFilled => &[Kind::ModelFits],
+            Fault::CellWrong | Fault::CellFilled => &[Kind::ModelFits, Kind::ModelFitsFront],
+            Fault::FrontLiteralDropped => &[Kind::FrontLemmaHolds],
+            Fault::FrontLiteralTurned => &[Kind::FrontLemmaFailsGuess],
         }
     }
 
@@ -68,7 +75,10 @@ impl Fault {
         match self {
             Fault::VerdictFlipped => answers.consistent = !answers.consistent,
             Fault::LiteralDropped | Fault::LiteralTurned | Fault::ConclusionFlipped => {
-                self.put_in_lemma(random, &mut answers)?;
+                self.put_in_lemma(random, answers.lemma.as_mut()?)?;
+            }
+            Fault::FrontLiteralDropped | Fault::FrontLiteralTurned => {
+                self.put_in_lemma(random, answers.front.as_mut()?.lemma.as_mut()?)?;
             }
             Fault::CellWrong | Fault::CellFilled => self.put_in_model(random, &mut answers)?,
             Fault::FixedTakenAsFree => free_all(&mut answers)?,
@@ -78,8 +88,7 @@ impl Fault {
         Some(answers)
     }
 
-    fn put_in_lemma(self, random: &mut Random, answers: &mut Answers) -> Option<()> {
-        let lemma = answers.lemma.as_mut()?;
+    fn put_in_lemma(self, random: &mut Random, lemma: &mut Lemma) -> Option<()> {
         if self == Fault::ConclusionFlipped {
             lemma.conclusion = lemma.conclusion.denied();
             return Some(());
@@ -88,7 +97,7 @@ impl Fault {
             return None;
         }
         let place = random.below(lemma.premise.len());
-        if self == Fault::LiteralDropped {
+        if matches!(self, Fault::LiteralDropped | Fault::FrontLiteralDropped) {
             lemma.premise.remove(place);
         } else {
             lemma.premise[place] = lemma.premise[place].denied();

@@ -5,6 +5,7 @@ mod answers;
 mod arguments;
 mod clauses;
 mod fault;
+mod front;
 mod lemma;
 mod questions;
 mod run;
