@@ -69,6 +69,44 @@
 //! assert!(clauses(&query)?.to_string().starts_with("p cnf 129 65\n"));
 //! # Ok::<(), Refusal>(())
 //! ```
+//!
+//! # Growing a query
+//!
+//! A query that is in conflict stays so whatever fields are put after it, as
+//! long as it is accepted: a search that extends queries at the end can drop
+//! one at its first conflict. The lemma of that front rules the grown guess out
+//! as it stands, though the grown query's own may be another, and longer. The
+//! front's clauses do not: the variables of Booleans and the fresh ones depend
+//! on how many base terms there are, so that clauses are to be had by a call on
+//! the grown query, or renumbered. The first example, and one more read:
+//!
+//! ```
+//! use zunidelo::{check, clauses, Literal, Refusal, Verdict};
+//!
+//! let mut query = vec![
+//!     0x01, 0, 4, 0, 0, 0, 5, // base 0 = 5
+//!     0x01, 0, 4, 0, 0, 0, 5, // base 1 = 5
+//!     0x03, 0, 0, // array 0
+//!     0x06, 0, 8, 0, 0, 0, 0, 0, 0, 0, 7, // base 2 = 7: array 0 at base 0
+//!     0x06, 0, 8, 0, 0, 0, 1, 0, 0, 0, 9, // base 3 = 9: array 0 at base 1
+//! ];
+//! let Verdict::Conflict { lemma, .. } = check(&query)? else { panic!("no memory fits") };
+//! assert!(clauses(&query)?.to_string().starts_with("p cnf 161 129\n1 33 -129 0\n"));
+//!
+//! query.extend([0x06, 0, 8, 0, 0, 0, 1, 0, 0, 0, 7]); // base 4 = 7: array 0 at base 1
+//! assert!(matches!(check(&query)?, Verdict::Conflict { .. }));
+//! let grown = [5, 5, 7, 9, 7]; // the values of base terms 0 to 4
+//! for literal in lemma.literals {
+//!     match literal {
+//!         Literal::Equal { first, later } => assert_eq!(grown[first], grown[later]),
+//!         Literal::Conclusion { first, later } => assert_ne!(grown[first], grown[later]),
+//!         other => panic!("the lemma has no {other}"),
+//!     }
+//! }
+//! // The bits of base term 4 are the variables 129 to 160, where fresh ones were.
+//! assert!(clauses(&query)?.to_string().starts_with("p cnf 193 129\n1 33 -161 0\n"));
+//! # Ok::<(), Refusal>(())
+//! ```
 
 mod call;
 mod clauses;
