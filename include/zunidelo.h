@@ -69,6 +69,11 @@
  * this value in every memory. A lemma compares no two fixed numbers, which would cost 64 clauses each time; between a fixed number and
  * another term a comparison stays, and so does every conclusion. A fixed number is refused as tag 01 is, and it is no read, so no witness.
  *
+ * GROWING. A query in conflict stays in conflict whatever fields are put after it, and each front of an accepted query, cut between two fields,
+ * is accepted: a search that extends queries at the end may drop one at its first ZUNIDELO_CONFLICT, by the same pointer and a lesser length.
+ * A front's lemma holds in all memories of the whole and is false under the whole's guess, so that it may be added there as it stands (but not
+ * the front's clauses, whose variables go by how many terms there are), and the cells of a consistent whole fit each of its fronts.
+ *
  * FORMAT of a query, of the lemma and of the clauses, and what a loop of guesses owes: docs/FORMAT.md.
  *
  * STACK. A call needs at most ZUNIDELO_STACK_BYTES of stack, below the frame of its caller. This is measured, not proved: on x86-64, with
