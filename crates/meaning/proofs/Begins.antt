@@ -1,11 +1,11 @@
 -- 02, E7, of queries: a front that is cut between two fields is accepted where the whole is, and its terms and guess begin those of the whole;
 -- and a front that is accepted is cut between two fields.
 -- Assumes nothing.
-use Prim.Native.Nat.{ℕ, _+_, _<_, _≤_}
+use Prim.Native.Nat.{ℕ, _≤_}
 use native.Mathlib.Nat.{le-refl, zero-add}
 use native.Mathlib.Omega.{arith}
 use mathlib.Core.Path.{_≡_, refl, sym, ap, _∙_, subst}
-use mathlib.Core.Logic.{_⊎_, inl, inr, _≢_, ⊎-elim}
+use mathlib.Core.Logic.{⊎-elim}
 use mathlib.Core.Bool.{Bool}
 use mathlib.Core.List.{List, [], _∷_, _++_, map, append-nil, append-assoc}
 use lib.Dec.{eqb}
@@ -14,9 +14,9 @@ use Rattle.paper.specs.Lists.{_∈_, firstMet}
 use Rattle.paper.specs.Fields.{Kind, parts, Item, field, broken, itemsFrom, items}
 use Rattle.paper.specs.Terms.{Term, Query}
 use Rattle.paper.specs.Load.{eachPart, asValue, asTruth, nextTerm, faults, extend, empty, Loaded, loadItems, maxBytes, load}
-use Rattle.paper.specs.Fronts.{placeOf, cuts, IsFront}
+use Rattle.paper.specs.Fronts.{cuts, IsFront}
 use Rattle.meaning.proofs.Built.{items-enough, load-cases, load-field, refused-accepted}
-use Rattle.meaning.proofs.Fronts.{AllFields, places, front-items, front-place}
+use Rattle.meaning.proofs.Fronts.{AllFields, front-items, front-place}
 
 -- A query that begins another: its terms and its guess are the first of the other's
 pub record Begins (front whole : Query) : Type 0 where
@@ -86,17 +86,15 @@ accepted-loads : (w : ℕ) (bytes : List ℕ) (query : Query) → load w bytes �
 accepted-loads w bytes query loaded = ⊎-elim (λ long. refused-accepted (long .1) loaded) (λ short. (short .0, sym (short .1) ∙ loaded)) (load-cases w bytes)
 
 module _ (w : ℕ) (front rest : List ℕ) where
-  whole : List ℕ
+  abbrev whole : List ℕ
   whole = front ++ rest
 
   shorter : length front ≤ length whole
-  unfolding whole
   shorter = rw length-append (omega arith)
 
   -- cut between two fields, the front is accepted, and begins the whole
   cut-accepted : (query : Query) → load w whole ≡ Loaded.accepted query → length front ∈ cuts w whole
       → (part : Query) × (load w front ≡ Loaded.accepted part) × Begins part query
-  unfolding whole
   cut-accepted query loaded here =
       let (few, by-items) = accepted-loads w whole query loaded in
       let (after, are) =
@@ -111,7 +109,6 @@ module _ (w : ℕ) (front rest : List ℕ) where
 
   -- accepted, the front is cut between two fields
   accepted-cut : (part : Query) → load w front ≡ Loaded.accepted part → length front ∈ cuts w whole
-  unfolding whole
   accepted-cut part loaded =
       let by-items = accepted-loads w front part loaded .1 in
       let there = front-place (length front) (length whole) w 0 front rest (le-refl (length front)) (le-refl (length whole)) (loaded-fields (items w front) empty part by-items) in
@@ -120,10 +117,8 @@ module _ (w : ℕ) (front rest : List ℕ) where
 -- An accepted query cut between two fields: the front is accepted, and begins the whole
 pub front-accepted : (w : ℕ) (front bytes : List ℕ) (query : Query) → load w bytes ≡ Loaded.accepted query → IsFront w front bytes
     → (part : Query) × (load w front ≡ Loaded.accepted part) × Begins part query
-unfolding whole
 front-accepted w front bytes query loaded (rest, is, here) = cut-accepted w front rest query (rw is at loaded) (rw is at here)
 
 -- and what is accepted and goes on in any way is cut there between two fields
 pub accepted-front : (w : ℕ) (front rest : List ℕ) (part : Query) → load w front ≡ Loaded.accepted part → IsFront w front (front ++ rest)
-unfolding whole
 accepted-front w front rest part loaded = (rest, refl, accepted-cut w front rest part loaded)

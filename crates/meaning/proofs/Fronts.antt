@@ -1,25 +1,22 @@
--- 02, E7, of bytes: where an accepted query is cut between two fields, the front is accepted, and its terms and guess begin those of the
--- whole; and only there. A field goes by its own bytes alone, so what stands before a cut is read alike with the rest and without it.
+-- 02, E7, of bytes: the items of a front that is cut between two fields begin those of the whole, and a front whose items are all fields is
+-- so cut. A field goes by its own bytes alone: what stands before a cut is read alike with the rest and without it.
 -- Assumes nothing.
-use Prim.Native.Nat.{ℕ, zero, suc, _+_, _<_, _≤_}
-use native.Mathlib.Nat.{le-refl, zero-add, add-zero, add-assoc, not-suc-le-zero}
+use Prim.Native.Nat.{ℕ, zero, suc, _+_, _≤_}
+use native.Mathlib.Nat.{add-zero, not-suc-le-zero}
 use native.Mathlib.Omega.{arith}
 use mathlib.Core.Path.{_≡_, refl, sym, ap, ap₂, _∙_, subst}
-use mathlib.Core.Logic.{_⊎_, inl, inr, ⊎-elim, _≢_}
-use mathlib.Core.Bool.{Bool}
-use mathlib.Core.List.{List, [], _∷_, _++_, map, append-nil, append-assoc, List·Memᴰ·head, List·Memᴰ·tail, List·Memᴰ·cases-cons, List·Memᴰ·append-cases, List·Memᴰ·eq-of-singleton, Memᴰ·of-map, Memᴰ·append-right}
+use mathlib.Core.Logic.{_⊎_, inl, inr, ⊎-elim}
+use mathlib.Core.List.{List, [], _∷_, _++_, map, List·Memᴰ·head, List·Memᴰ·tail, List·Memᴰ·cases-cons, List·Memᴰ·append-cases, List·Memᴰ·eq-of-singleton, Memᴰ·of-map}
 use mathlib.Core.Option.{Option, none, some}
 use borrow.Author.Tests.{ltb-false, le-ltb, eqb-true, eq-eqb, not-false}
 use lib.Dec.{eqb}
 use lib.ListN.{length, getD, take, drop, length-append, length-take, length-drop}
 use lib.Seq.{take-append-le, drop-append-le, getD-take, take-take, take-add, drop-at, length-take-le}
 use Rattle.paper.specs.Lists.{_∈_, sum, number, firstMet}
-use Rattle.paper.specs.Fields.{Part, Kind, parts, size, ownLength, cut, Item, field, broken, lengthAt, kindOf, tagAt, headTests, itemOf, itemAt, followedBy, itemsFrom, items}
-use Rattle.paper.specs.Terms.{Term, Query}
-use Rattle.paper.specs.Load.{eachPart, asValue, asTruth, nextTerm, faults, extend, empty, Loaded, loadItems, maxBytes, load}
-use Rattle.paper.specs.Fronts.{placeOf, cuts, IsFront}
+use Rattle.paper.specs.Fields.{Part, Kind, parts, size, ownLength, cut, Item, field, broken, lengthAt, kindOf, tagAt, headTests, itemOf, itemAt, followedBy, itemsFrom}
+use Rattle.paper.specs.Fronts.{placeOf}
 use Rattle.meaning.proofs.Tests.{AllTwoToNine, none-met}
-use Rattle.meaning.proofs.Built.{item-in, items-enough, load-cases, load-field, refused-accepted}
+use Rattle.meaning.proofs.Built.{item-in}
 
 -- Bytes that begin alike
 module _ (one other : List ℕ) where

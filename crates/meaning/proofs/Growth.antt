@@ -2,29 +2,23 @@
 -- among those of the whole, so its walks are walks of the whole, and a conflict stays. What interprets the whole interprets the front, so
 -- memories go down to fronts, and a front's lemma holds of the whole.
 -- Assumes nothing.
-use Prim.Native.Nat.{ℕ, _<_, _≤_, _^_}
-use native.Mathlib.Nat.{le-refl}
+use Prim.Native.Nat.{ℕ, _<_, _≤_}
 use native.Mathlib.Omega.{arith}
-use mathlib.Core.Path.{_≡_, refl, sym, ap, _∙_, subst}
-use mathlib.Core.Logic.{_⊎_, inl, inr, ⊎-elim}
-use mathlib.Core.Bool.{Bool, true, false, cond, not}
-use mathlib.Core.List.{List, _++_, Memᴰ·append-left}
-use mathlib.Core.Option.{Option, none, some}
+use mathlib.Core.Path.{_≡_, sym, ap, _∙_, subst}
+use mathlib.Core.Bool.{Bool, false, not}
+use mathlib.Core.List.{List, Memᴰ·append-left}
+use mathlib.Core.Option.{none, some}
 use lib.Dec.{eqb}
-use lib.ListN.{length, getD, List·getD-append}
+use lib.ListN.{getD, List·getD-append}
 use Rattle.paper.specs.Lists.{_∈_, concatMap}
 use Rattle.paper.specs.Fields.{Series, base, boolean, array}
 use Rattle.paper.specs.Terms.{Term, series, given, Query, Assignment}
 use Rattle.paper.specs.Interpretations.{Memories, Means, Interpretation}
-use Rattle.paper.specs.Load.{Loaded, load}
 use Rattle.paper.specs.Edges.{indexNumber, Source, sourceOf, sources, Guard, Edge, edgeOf, edges, opens, openEdges}
 use Rattle.paper.specs.Reach.{indexValue, Reaches}
 use Rattle.paper.specs.Conflict.{Pair}
-use Rattle.paper.specs.Fronts.{IsFront}
-use Rattle.paper.specs.Answers.{Verdict, Checked, checkRefused, check, look}
-use Rattle.meaning.proofs.Built.{AreBytes}
 use Rattle.meaning.proofs.Placed.{Below, ownNumber, given-grows}
-use Rattle.meaning.proofs.Accepted.{Accepted, accepted}
+use Rattle.meaning.proofs.Accepted.{Accepted}
 use Rattle.meaning.proofs.Lists.{keep-in, keep-has, concatMap-append}
 use Rattle.meaning.proofs.Walks.{walk-among}
 use Rattle.meaning.proofs.Given.{Numbered, GuardGiven, edge-given, source-given}
@@ -33,10 +27,9 @@ use Rattle.meaning.proofs.Conflicts.{clash, taken-first, taken-later}
 use Rattle.meaning.proofs.Model.{agreed}
 use Rattle.meaning.proofs.Whole.{guessOf, pairOf, lemmaOf}
 use Rattle.meaning.proofs.Literals.{lemma-same}
-use Rattle.meaning.proofs.Verdict.{numbered, pair-taken, lemma-sound, lemma-false, lemma-names, fits-none, none-fits}
-use Rattle.meaning.proofs.Demands as Demands
-use Rattle.meaning.proofs.Demands.{RulesOut, Lemma, refused-alike, consistent-exactly, lookup-interprets, conflict-rules-out}
-use Rattle.meaning.proofs.Begins.{Begins, front-accepted, accepted-front}
+use Rattle.meaning.proofs.Verdict.{numbered, pair-taken, lemma-sound, lemma-false, lemma-names}
+use Rattle.meaning.proofs.Demands.{RulesOut}
+use Rattle.meaning.proofs.Begins.{Begins}
 
 -- An interpretation goes by the values and truths of the given terms alone
 module _ (w : ℕ) (terms : List Term) (number : Numbered terms) (g h : Assignment) (memory : Memories)

@@ -3,13 +3,13 @@
 -- Assumes nothing.
 use Prim.Native.Nat.{ℕ}
 use mathlib.Core.Path.{_≡_, refl}
-use mathlib.Core.Bool.{true, false, or-true, false≢true}
+use mathlib.Core.Bool.{true, or-true, false≢true}
 use mathlib.Core.List.{List, [], _∷_, _++_, List·Memᴰ·head, List·Memᴰ·tail}
 use lib.Dec.{eqb}
 use lib.ListN.{take, replicate}
 use Rattle.paper.specs.Lists.{_∈_, any}
 use Rattle.paper.specs.Fields.{itemAt}
-use Rattle.paper.specs.Fronts.{cuts, IsFront}
+use Rattle.paper.specs.Fronts.{IsFront}
 use Rattle.paper.specs.Answers.{Verdict}
 use Rattle.paper.proofs.Rows.{Row, cutAt, fronts, conflictIn, refusedIn, consistent, conflictOf, refused}
 use Rattle.paper.proofs.Queries.{freeBase, variable, read, equals, concludes, k1, k3, k6With, k11tag, k11short, k11length}
