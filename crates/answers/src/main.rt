@@ -1,5 +1,7 @@
 // Answers questions that come on standard input, one after another, with the lines of `rust/README.md`: the verdict's lines, a check into
 // a buffer of a given room, a lookup, and clauses into a run of a given room. The tester asks them and compares.
+#![tactic(auto)]
+
 ghost use Rattle.std.specs.Prelude.{◌≤◌};
 
 use checker::{Checked, Looked, Written};

@@ -1,5 +1,7 @@
 // The public functions: a check of one query, a lookup of one cell of its model, the cells of one array, and its clauses. They take any bytes
 // and any lent buffer. Each owns the tables of its call, and lends them.
+#![tactic(auto)]
+
 use query::Refusal;
 
 mod checking;
@@ -13,7 +15,7 @@ pub use looking::lookup;
 pub use writing::clauses;
 
 // What a check answers: a refusal; consistent, with the pairs; or a conflict, with the pairs and the length of the lemma.
-#[derive(Drop)]
+#[derive(Clone, Copy)]
 pub enum Checked {
     Refused(Refusal),
     Consistent(usize),
@@ -21,28 +23,28 @@ pub enum Checked {
 }
 
 // What a lookup answers: a refusal, or the model's value.
-#[derive(Drop)]
+#[derive(Clone, Copy)]
 pub enum Looked {
     Refused(Refusal),
     Value(u64),
 }
 
 // What a listing answers: a refusal, or how many cells there are.
-#[derive(Drop)]
+#[derive(Clone, Copy)]
 pub enum Listed {
     Refused(Refusal),
     Cells(usize),
 }
 
 // What the clause writer answers: a refusal; or the variables, the clauses and how many numbers were written.
-#[derive(Drop)]
+#[derive(Clone, Copy)]
 pub struct Totals {
     pub variables: usize,
     pub clauses: usize,
     pub count: usize,
 }
 
-#[derive(Drop)]
+#[derive(Clone, Copy)]
 pub enum Written {
     Refused(Refusal),
     Clauses(Totals),

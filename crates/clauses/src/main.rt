@@ -1,4 +1,6 @@
 // The clause program: one query on standard input, and its clauses on standard output.
+#![tactic(auto)]
+
 use checker::{Totals, Written};
 use paper::MAX_NUMBERS;
 use print::{PAGE, QUERY_ROOM};

@@ -1,5 +1,7 @@
 // The clauses of a lemma (01, The clauses), over the width of a base term: how many there are, clause n, and all of them, as signed 32-bit
 // numbers into a run that the caller lends. Who calls has tested the sizes.
+#![tactic(auto)]
+
 ghost use Rattle.std.specs.Prelude.{◌≡◌, cond, ℕ, ◌+◌, ◌<◌, ◌≤◌, length};
 ghost use Rattle.paper.specs.Sizes.{max_bases, max_booleans, max_literals};
 ghost use Rattle.paper.specs.Answers.{written_over};
@@ -115,7 +117,7 @@ pub fn put_clause<'a>(
 }
 
 // How many clauses, fresh variables and numbers there are.
-#[derive(Drop)]
+#[derive(Clone, Copy)]
 pub struct ClauseCounts {
     pub clauses: usize,
     pub fresh: usize,

@@ -10,7 +10,7 @@ use lemma::{left_of, right_of, tag_of};
 use paper::{EQUAL, IS_FALSE, IS_TRUE, MAX_LITERALS};
 
 // A literal, with its first fresh variable counted from 0.
-#[derive(Drop)]
+#[derive(Clone, Copy)]
 pub struct Placed {
     pub tag: u8,
     pub left: usize,

@@ -3,7 +3,7 @@ ghost use Rattle.std.specs.Prelude.{◌≡◌, [], ◌∷◌, ◌+◌, ◌*◌, 
 ghost use Rattle.cnf.specs.Parts.{Put, Small, signed};
 
 // What numbers the variables: the bits of a base term, and how many base terms and Booleans there are.
-#[derive(Drop)]
+#[derive(Clone, Copy)]
 pub struct Sizes {
     pub width: usize,
     pub bases: usize,

@@ -1,4 +1,6 @@
 // The distances between array terms (02, E6): what the cheapest walk costs, a write 49 and any other edge 1. Each array term is settled once.
+#![tactic(auto)]
+
 ghost use Rattle.std.specs.Prelude.{◌≡◌, ◌^◌, ◌<◌, length, replicate};
 ghost use Rattle.paper.specs.Sizes.{max_arrays};
 ghost use Rattle.reach.specs.Reached.{open_to};
@@ -48,7 +50,7 @@ fn sort_edges<'a>(
 }
 
 // What lies one step beyond a level: over an edge that is no write, and over a write.
-#[derive(Drop)]
+#[derive(Clone, Copy)]
 struct Beyond {
     cheap: u64,
     written: u64,

@@ -1,5 +1,7 @@
 // The refusals 5 to 9 of a field against what was given before it (01, Refusals by number), tried in order. What was given is told by counts, by
 // the reads and by the assigned values, as the loader has them in its tables.
+#![tactic(auto)]
+
 ghost use Rattle.std.specs.Prelude.{◌≡◌, false, cond, not, ◌||◌, ◌&&◌, eqb, leb, ltb, ◌%◌, ◌/◌};
 ghost use Rattle.paper.specs.Sizes.{max_booleans};
 ghost use Rattle.faults.specs.Faults.{fault_by, bad_witnesses_by, equal_witnesses_by};
@@ -11,7 +13,7 @@ use paper::{
 use query::{EqualityParts, Field};
 
 // How many terms of each series are given, and how many rows the tables of sources and edges have.
-#[derive(Drop)]
+#[derive(Clone, Copy)]
 pub struct Counts {
     pub bases: u16,
     pub booleans: u16,

@@ -1,4 +1,6 @@
 // The front of every call: a query is loaded into tables that the caller owns, marked, and searched for its conflicting pair.
+#![tactic(auto)]
+
 ghost use Rattle.std.specs.Prelude.{◌≤◌, get_or};
 ghost use Rattle.terms.specs.Tables.{tables, Sized};
 ghost use Rattle.reach.specs.Reached.{open_to, sources_of, rows_in, max_rows};
@@ -17,14 +19,14 @@ const FEW: usize = 32;
 const FEW_PARTS: usize = FEW * ROW_PARTS;
 
 // What is ruled on the tables: the number of pairs, and the conflicting pair.
-#[derive(Drop)]
+#[derive(Clone, Copy)]
 pub struct Ruling {
     pub pairs: usize,
     pub found: Found,
 }
 
 // What a query comes to before any call's own answer: its refusal with the offset; or 0, the counts of its terms, and the ruling.
-#[derive(Drop)]
+#[derive(Clone, Copy)]
 pub struct Front {
     pub refusal: u8,
     pub offset: usize,

@@ -1,4 +1,6 @@
 // The lines that 01 has for the check of a query, on standard output.
+#![tactic(auto)]
+
 ghost use Rattle.std.specs.Prelude.{◌<◌, ◌≤◌};
 
 use checker::{Checked, Listed};

@@ -1,4 +1,6 @@
 // The lookup program: one query on standard input, the cell in the file `cell.txt`, and its value on standard output.
+#![tactic(auto)]
+
 ghost use Rattle.std.specs.Prelude.{◌≤◌};
 
 use checker::Looked;

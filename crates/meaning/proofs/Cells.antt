@@ -98,6 +98,7 @@ none_with x (cell ∷ later) differ = rw (ne_eqb cell.index x (differ cell (Mem�
 
 -- among cells whose indices ascend, a cell is the first of its index
 own_with : (some_cells : List Cell) → Ascend some_cells → (cell : Cell) → cell ∈ some_cells → cell_with cell.index some_cells ≡ some cell
+own_with [] ascend cell member = elim member [ ]
 own_with (first ∷ later) ascend cell (Memᴰ.head same) = rw (eq-eqb first.index cell.index (ap (λ (c : Cell). c.index) (sym same))) (ap some (sym same))
 own_with (first ∷ later) ascend cell (Memᴰ.tail further) =
     rw (ne_eqb first.index cell.index (λ same. omega (arith, ascend.0 cell further))) (own_with later ascend.1 cell further)

@@ -83,6 +83,7 @@ module _ (by : Edge → Option ℕ) (before : Option ℕ) where
 
   nearest_by : (among : List Edge) (edge : Edge) {most : ℕ} → edge ∈ among → AtMost (by edge) most → AtMost (nearest among) most
   unfolding nearest
+  nearest_by [] edge {most = most} member found = elim member [ ]
   nearest_by (first ∷ among) edge {most} (Memᴰ.head same) found =
       least_left (by first) (nearest among) (subst (λ (e : Edge). AtMost (by e) most) same found)
   nearest_by (first ∷ among) edge (Memᴰ.tail further) found = least_right (by first) (nearest among) (nearest_by among edge further found)

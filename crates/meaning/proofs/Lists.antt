@@ -73,6 +73,7 @@ module _ {A : Type 0} (test : A → Bool) where
       go false e below further = (Memᴰ.tail (below further).0, (below further).1)
 
   pub keep_has : (xs : List A) {x : A} → x ∈ xs → test x ≡ true → x ∈ keep test xs
+  keep_has [] {x = x} member e = elim member [ ]
   keep_has (y ∷ xs) {x} (Memᴰ.head same) e = rw (sym (ap test same) ∙ e) (Memᴰ.head same)
   keep_has (y ∷ xs) {x} (Memᴰ.tail further) e = go (test y) (keep_has xs further e)
     where
@@ -123,6 +124,7 @@ module _ {A : Type 0} (test : A → Bool) where
 
   -- some element passes, or all do
   pub any_has : (xs : List A) {x : A} → x ∈ xs → test x ≡ true → any test xs ≡ true
+  any_has [] member e = elim member [ ]
   any_has (y ∷ xs) (Memᴰ.head same) e = rw (sym (ap test same) ∙ e)
   any_has (y ∷ xs) (Memᴰ.tail further) e = or_right (test y) (any test xs) (any_has xs further e)
 
@@ -135,6 +137,7 @@ module _ {A : Type 0} (test : A → Bool) where
       go (inr there) below = ((below there).0, Memᴰ.tail (below there).1, (below there).2)
 
   pub all_in : (xs : List A) {x : A} → all test xs ≡ true → x ∈ xs → test x ≡ true
+  all_in [] e member = elim member [ ]
   all_in (y ∷ xs) e (Memᴰ.head same) = ap test same ∙ and_left (test y) (all test xs) e
   all_in (y ∷ xs) e (Memᴰ.tail further) = all_in xs (and_right (test y) (all test xs) e) further
 
@@ -166,6 +169,7 @@ module _ {A : Type 0} (test : A → Bool) where
       go false e below found = (Memᴰ.tail (below found).0, (below found).1)
 
   pub find_none : (xs : List A) {x : A} → find test xs ≡ none → x ∈ xs → test x ≡ false
+  find_none [] {x = x} e member = elim member [ ]
   find_none (y ∷ xs) {x} e (Memᴰ.head same) = go (test y) refl e
     where
       go : (b : Bool) → test y ≡ b → cond b (some y) (find test xs) ≡ none → test x ≡ false
@@ -196,6 +200,7 @@ module _ {A : Type 0} (test : A → Bool) where
 
 module _ {A B : Type 0} (f : A → List B) where
   pub concat_map_has : (xs : List A) {x : A} {y : B} → x ∈ xs → y ∈ f x → y ∈ concat_map f xs
+  concat_map_has [] {x = x} {y = y} member here = elim member [ ]
   concat_map_has (z ∷ xs) {x} {y} (Memᴰ.head same) here = Memᴰ.append_left (concat_map f xs) (subst (λ (a : A). y ∈ f a) same here)
   concat_map_has (z ∷ xs) (Memᴰ.tail further) here = Memᴰ.append_right (f z) (concat_map_has xs further here)
 

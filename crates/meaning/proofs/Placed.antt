@@ -119,7 +119,7 @@ unfolding given
 given_next before after term = rw (given_append (series term) before (term ∷ after)) (rw own_series (omega arith))
 
 -- a member of a list stands somewhere in it
-pub split_in : {terms : List Term} {term : Term} → term ∈ terms → (before after : List Term) × (terms ≡ before ++ (term ∷ after))
+pub split_in : {term : Term} {terms : List Term} → term ∈ terms → (before after : List Term) × (terms ≡ before ++ (term ∷ after))
 split_in (Memᴰ.head {xs = terms} same) = ([], terms, ap (λ (t : Term). t ∷ terms) (sym same))
 split_in (Memᴰ.tail {x = first} further) =
     let (before, after, split) = split_in further in

@@ -1,4 +1,6 @@
 // The model of a consistent query (01, Sources, edges, reach): the value of one cell, and the cells of one array.
+#![tactic(auto)]
+
 mod cells;
 
 ghost use Rattle.std.specs.Prelude.{◌≡◌, ℕ, ◌<◌, ◌≤◌};

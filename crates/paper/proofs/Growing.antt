@@ -60,5 +60,6 @@ unfolding item_at
 five_bytes (rest, is, here) = false≢true (among (0 ∷ 7 ∷ 14 ∷ 17 ∷ 28 ∷ 39 ∷ []) here)
   where
     among : (places : List ℕ) → 5 ∈ places → any (eqb 5) places ≡ true
+    among [] here = elim here [ ]
     among (place ∷ places) (Memᴰ.head same) = rw (← same)
     among (place ∷ places) (Memᴰ.tail further) = rw (among places further) (or-true (eqb 5 place))

@@ -1,5 +1,6 @@
 // The numbers of 01, each said once: limits, sizes, tags and refusals. What the paper says stands in specs/, as definitions over lists; its known
 // queries are proved in proofs/.
+#![tactic(auto)]
 
 // The most array terms, base terms and Booleans of a query, and its most bytes.
 pub const MAX_ARRAYS: usize = 48;

@@ -1,5 +1,7 @@
 // What the programs read and print: a query from standard input, and 01's lines on standard output. What is printed is gathered on a page,
 // which goes out when it is full and at the end, so that many short lines take few writes.
+#![tactic(auto)]
+
 ghost use Rattle.std.specs.Prelude.{◌≤◌};
 ghost use Rattle.io.specs.Counts.{IsPrefixLen};
 

@@ -1,4 +1,6 @@
 // Reads the fields of a query where they stand (01, The query): what stands at a place is a field of one of the eight kinds with its parts, the end, or a refusal.
+#![tactic(auto)]
+
 ghost use Rattle.std.specs.Prelude.{◌≡◌, not, ℕ, ◌+◌, ◌/◌, ◌^◌, ◌<◌, ◌≤◌, length, take, drop};
 ghost use Rattle.paper.specs.Lists.{number, is_some};
 ghost use Rattle.paper.specs.Fields.{kind_of, own_length};
@@ -12,28 +14,28 @@ use paper::{
 // The bytes of a field's head: tag and length.
 const HEAD: usize = 3;
 
-#[derive(Drop)]
+#[derive(Clone, Copy)]
 pub struct WriteParts {
     pub beneath: u16,
     pub index: u16,
     pub value: u16,
 }
 
-#[derive(Drop)]
+#[derive(Clone, Copy)]
 pub struct ConditionalParts {
     pub chooser: u16,
     pub if_true: u16,
     pub if_false: u16,
 }
 
-#[derive(Drop)]
+#[derive(Clone, Copy)]
 pub struct ReadParts {
     pub from: u16,
     pub index: u16,
     pub value: u64,
 }
 
-#[derive(Drop)]
+#[derive(Clone, Copy)]
 pub struct EqualityParts {
     pub left: u16,
     pub right: u16,
@@ -43,7 +45,7 @@ pub struct EqualityParts {
 }
 
 // "Each field is one of these seven kinds with its own parts"; 02, E1: a fixed number is the eighth.
-#[derive(Drop)]
+#[derive(Clone, Copy)]
 pub enum Field {
     FreeBase(u64),
     FreeBoolean(u8),
@@ -55,14 +57,14 @@ pub enum Field {
     Fixed(u64),
 }
 
-#[derive(Drop)]
+#[derive(Clone, Copy)]
 pub struct Refusal {
     pub number: u8,
     pub offset: usize,
 }
 
 // What stands at a place: a field with the next place, the end, or a refusal.
-#[derive(Drop)]
+#[derive(Clone, Copy)]
 pub enum Decoded {
     Next(Field, usize),
     End,

@@ -1,4 +1,5 @@
 // Marks: which array terms each source reaches over the edges open to its index value, and how many pairs that makes.
+#![tactic(auto)]
 
 ghost use Rattle.std.specs.Prelude.{◌≡◌, ℕ, ◌^◌, ◌<◌, length, get_or, set, replicate};
 ghost use Rattle.paper.specs.Sizes.{max_arrays, max_sources};
@@ -9,7 +10,7 @@ use paper::{MAX_ARRAYS, MAX_BASES, MAX_BOOLEANS, MAX_EDGES, MAX_SOURCES};
 use terms::graph::{index_value, left_of, open_way, origin_of, right_of, shut_to, way_of};
 
 // A row, and how many array terms it marks.
-#[derive(Drop)]
+#[derive(Clone, Copy)]
 pub struct Spread {
     pub row: u64,
     pub marked: usize,

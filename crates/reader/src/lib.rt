@@ -1,12 +1,14 @@
 // "The fields are taken one after another from the lent query": a reader holds the query and the place of its next field. It is made at the
 // first field, asked what stands at its place, and handed back at the next. Its functions are thin, and others call `field_at`.
+#![tactic(auto)]
+
 ghost use Rattle.std.specs.Prelude.{◌≡◌};
 ghost use Rattle.query.specs.Standing.{standing, standing_of};
 
 use paper::WIDTH;
 use query::Decoded;
 
-#[derive(Drop)]
+#[derive(Clone, Copy)]
 pub struct Reader<'a> {
     pub query: &'a [u8],
     pub at: usize,

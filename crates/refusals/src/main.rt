@@ -1,5 +1,7 @@
 // Loads each query of standard input, which stands behind its length of two bytes, and writes a line for each: `accepted`, or `refused`
 // with number and offset. The queries and the lines that 01 fixes for them are made by tests/refusals.py.
+#![tactic(auto)]
+
 ghost use Rattle.std.specs.Prelude.{◌≤◌};
 
 use libc::{STDIN_FILENO, STDOUT_FILENO};

@@ -15,7 +15,7 @@ pub const CHOOSES: u32 = 1;
 pub const EQUATES: u32 = 2;
 
 // The rule of openness, for one row of the edges: is it open to an index value, and between which ends by which guard.
-#[derive(Drop)]
+#[derive(Clone, Copy)]
 pub struct Way {
     pub open: bool,
     pub left: usize,

@@ -1,5 +1,7 @@
 // The terms and the guess of a query, loaded from its bytes into tables that are lent: values, truths, reads, sources and edges, filled in the
 // one pass over the fields.
+#![tactic(auto)]
+
 ghost use Rattle.std.specs.Prelude.{◌≡◌, ◌<◌, set};
 ghost use Rattle.paper.specs.Sizes.{max_bases};
 ghost use Rattle.terms.specs.Tables.{tables, read_row, more_bases, put_in, Room, Sized};
@@ -19,7 +21,7 @@ const NO_READ: u16 = 255;
 const FIXED_MARK: u16 = 511;
 
 // What loading ends in: refusal 0 with the counts of the query that is accepted, or the refusal with its offset.
-#[derive(Drop)]
+#[derive(Clone, Copy)]
 pub struct Loaded {
     pub refusal: u8,
     pub offset: usize,

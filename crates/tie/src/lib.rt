@@ -1,6 +1,8 @@
 // The contracts, tied to the theorems: each function here calls one public or exported function, asks nothing of its caller, and ensures the
 // very words that the headline theorems are about. A `requires` that stood on one of them, or a contract that said less, would leave this
 // crate unproved. It holds nothing to call.
+#![tactic(auto)]
+
 ghost use Rattle.std.specs.Prelude.{◌≡◌, length};
 ghost use Rattle.meaning.proofs.Built.{AreBytes};
 ghost use Rattle.checker.specs.Reports.{CheckAllows, LookAllows, ListAllows, WriteAllows};

@@ -1,4 +1,6 @@
 // The verdict program: one query on standard input, and 01's lines on standard output.
+#![tactic(auto)]
+
 use print::QUERY_ROOM;
 
 fn main() {

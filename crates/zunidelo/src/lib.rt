@@ -1,4 +1,6 @@
 // What a program in C or Rust links (include/zunidelo.h): each function reports as numbers what the public function of its name answers.
+#![tactic(auto)]
+
 ghost use Rattle.zunidelo.specs.Told.{CheckTells, LookTells, WriteTells};
 
 use checker::{Checked, Looked, Written};

@@ -13,127 +13,127 @@ use Rattle.query.proofs.decode.Tie as tie
 
 -- past its test, the tag is known
 
-known : (c : tie.Else3) → not (is_some (kind_of (get_or c.before.before.before.before.before.before.args.query.now c.before.before.before.before.before.before.args.at 0))) ≡ false
-known c = sym c.before.unknown.ensures ∙ c.if3.false
+known : (c : tie.Else-unknown) → not (is_some (kind_of (get_or c.args.query.now c.args.at 0))) ≡ false
+known c = sym c.unknown.ensures ∙ c.if-unknown.false
 
-returns : tie.Need-returns
+returns : tie.Need-returns-then-query-at
 returns c =
-    let a = c.before.before.args in
-    sym (at_end a.width a.query.now a.at c.if1.true)
+    let a = c.args in
+    sym (at_end a.width a.query.now a.at c.if-query-at.true)
 
-sub-left : tie.Need-overflow-sub-left
-sub-left c = omega arith
+sub_left : tie.Need-overflow_sub-left
+sub_left c = omega arith
 
-refused-requires : tie.Need-refused-requires
-refused-requires c κs = tt
+refused_requires : tie.Need-refused-requires
+refused_requires c κs = tt
 
-returns-2 : tie.Need-returns-2
-returns-2 c =
-    let a = c.before.before.before.before.args in
-    c.refused.ensures ∙ sym (head_cut a.width a.query.now a.at c.before.before.if1.false c.before.if2.true)
+returns_2 : tie.Need-returns-then-left-lt-HEAD
+returns_2 c =
+    let a = c.args in
+    c.refused.ensures ∙ sym (head_cut a.width a.query.now a.at c.if-query-at.false c.if-left-lt-HEAD.true)
 
-shared-slice-read-tag : tie.Need-shared-slice-read-tag
-shared-slice-read-tag c = omega arith
+shared_slice_read_tag : tie.Need-bounds-query-at
+shared_slice_read_tag c = omega arith
 
-unknown-requires : tie.Need-unknown-requires
-unknown-requires c κs = tt
+unknown_requires : tie.Need-unknown-requires
+unknown_requires c κs = tt
 
-refused-requires-2 : tie.Need-refused-requires-2
-refused-requires-2 c κs = tt
+refused_requires_2 : tie.Need-refused-requires-then-unknown
+refused_requires_2 c κs = tt
 
-returns-3 : tie.Need-returns-3
-returns-3 c =
-    let a = c.before.before.before.before.before.before.before.args in
-    c.refused2.ensures
+returns_3 : tie.Need-returns-then-unknown
+returns_3 c =
+    let a = c.args in
+    c.refused-then-unknown.ensures
     ∙ sym
-    (tag_unknown a.width a.query.now a.at c.before.before.before.before.before.if1.false c.before.before.before.before.if2.false
-    (sym c.before.before.unknown.ensures ∙ c.before.if3.true))
+    (tag_unknown a.width a.query.now a.at c.if-query-at.false c.if-left-lt-HEAD.false
+    (sym c.unknown.ensures ∙ c.if-unknown.true))
 
-add-length-at : tie.Need-overflow-add-length-at
-add-length-at c = omega arith
+add_length_at : tie.Need-overflow_add-length_at
+add_length_at c = omega arith
 
-add-from : tie.Need-overflow-add-from
-add-from c = omega arith
+add_from : tie.Need-overflow_add-from
+add_from c = omega arith
 
-number2-requires : tie.Need-number2-requires
-number2-requires c κs = omega arith
+number2_requires : tie.Need-number2-held-requires
+number2_requires c κs = omega arith
 
-cast-held : tie.Need-overflow-cast-held
-cast-held c = omega arith
+cast_held : tie.Need-overflow_cast-held
+cast_held c = omega arith
 
-own-length-requires : tie.Need-own-length-requires
-own-length-requires c κs =
-    let tag = known_tag (get_or c.before.before.before.before.before.before.before.args.query.now c.before.before.before.before.before.before.before.args.at 0) (known c.before) in
-    (tag.0, tag.1, c.before.before.before.before.before.before.before.requires)
+own_length_requires : tie.Need-own_length-own-requires
+own_length_requires c κs =
+    let tag = known_tag (get_or c.args.query.now c.args.at 0) (known c.before) in
+    (tag.0, tag.1, c.requires)
 
-refused-requires-3 : tie.Need-refused-requires-3
-refused-requires-3 c κs = tt
+refused_requires_3 : tie.Need-refused-requires-then-held-own
+refused_requires_3 c κs = tt
 
-returns-4 : tie.Need-returns-4
-returns-4 c =
-    let a = c.before.before.before.before.before.before.before.before.before.before.args in
-    c.refused3.ensures
+returns_4 : tie.Need-returns-then-held-own
+returns_4 c =
+    let a = c.args in
+    c.refused-then-held-own.ensures
     ∙ sym
-    (length_wrong a.width a.query.now a.at c.before.before.before.before.before.before.before.before.if1.false c.before.before.before.before.before.before.before.if2.false (known c.before.before.before.before)
-    (λ own. c.before.if4.true (c.before.before.before.number2.ensures ∙ own ∙ sym c.before.before.own-length.ensures)))
+    (length_wrong a.width a.query.now a.at c.if-query-at.false c.if-left-lt-HEAD.false (known c.before.before.before.before)
+    (λ own. c.if-held-own.true (c.number2-held.ensures ∙ own ∙ sym c.own_length-own.ensures)))
 
-add-whole : tie.Need-overflow-add-whole
-add-whole c = omega arith
+add_whole : tie.Need-overflow_add-whole
+add_whole c = omega arith
 
-refused-requires-4 : tie.Need-refused-requires-4
-refused-requires-4 c κs = tt
+refused_requires_4 : tie.Need-refused-requires-then-left-whole
+refused_requires_4 c κs = tt
 
-returns-5 : tie.Need-returns-5
-returns-5 c =
-    let a = c.before.before.before.before.before.before.before.before.before.before.before.args in
-    c.refused4.ensures
+returns_5 : tie.Need-returns-then-left-whole
+returns_5 c =
+    let a = c.args in
+    c.refused-then-left-whole.ensures
     ∙ sym
-    (value_cut a.width a.query.now a.at c.before.before.before.before.before.before.before.before.before.if1.false c.before.before.before.before.before.before.before.before.if2.false (known c.before.before.before.before.before)
-    (sym c.before.before.before.before.number2.ensures ∙ c.before.before.if4.false ∙ c.before.before.before.own-length.ensures)
-    (rw c.before.before.before.before.number2.ensures at c.before.if5.true))
+    (value_cut a.width a.query.now a.at c.if-query-at.false c.if-left-lt-HEAD.false (known c.before.before.before.before.before)
+    (sym c.number2-held.ensures ∙ c.if-held-own.false ∙ c.own_length-own.ensures)
+    (rw c.number2-held.ensures at c.if-left-whole.true))
 
-add-next : tie.Need-overflow-add-next
-add-next c = omega arith
+add_next : tie.Need-overflow_add-next
+add_next c = omega arith
 
-field-at-requires : tie.Need-field-at-requires
-field-at-requires c κs =
-    let tag = known_tag (get_or c.before.before.before.before.before.before.before.before.before.before.args.query.now c.before.before.before.before.before.before.before.before.before.before.args.at 0) (known c.before.before.before.before) in
-    (tag.0, tag.1, c.before.before.before.before.before.before.before.before.before.before.requires, omega (arith, c.before.before.own-length.ensures))
+field_at_requires : tie.Need-field_at-field-requires
+field_at_requires c κs =
+    let tag = known_tag (get_or c.args.query.now c.args.at 0) (known c.before.before.before.before) in
+    (tag.0, tag.1, c.requires, omega (arith, c.own_length-own.ensures))
 
-returns-6 : tie.Need-returns-6
-returns-6 c =
-    let a = c.before.before.before.before.before.before.before.before.before.before.before.args in
+returns_6 : tie.Need-returns
+returns_6 c =
+    let a = c.args in
     rw
-    (c.field_at.ensures.numbers, c.before.before.before.before.number2.ensures)
+    (c.field_at-field.ensures.numbers, c.number2-held.ensures)
     (sym
-    (field_stands a.width a.query.now a.at c.before.before.before.before.before.before.before.before.before.if1.false c.before.before.before.before.before.before.before.before.if2.false (known c.before.before.before.before.before)
-    (sym c.before.before.before.before.number2.ensures ∙ c.before.before.if4.false ∙ c.before.before.before.own-length.ensures)
-    (kind_of_field c.field_at.result)
-    c.field_at.ensures.kind
-    (rw c.before.before.before.before.number2.ensures at c.before.if5.false)))
+    (field_stands a.width a.query.now a.at c.if-query-at.false c.if-left-lt-HEAD.false (known c.before.before.before.before.before)
+    (sym c.number2-held.ensures ∙ c.if-held-own.false ∙ c.own_length-own.ensures)
+    (kind_of_field c.field_at-field.result)
+    c.field_at-field.ensures.kind
+    (rw c.number2-held.ensures at c.if-left-whole.false)))
 
-pub decode-spec : {M : Type 1} → statement M
-decode-spec =
+pub decode_spec : {M : Type 1} → statement M
+decode_spec =
     tie.close
     (tie.spec
     returns
-    sub-left
-    refused-requires
-    returns-2
-    shared-slice-read-tag
-    unknown-requires
-    refused-requires-2
-    returns-3
-    add-length-at
-    add-from
-    number2-requires
-    cast-held
-    own-length-requires
-    refused-requires-3
-    returns-4
-    add-whole
-    refused-requires-4
-    returns-5
-    add-next
-    field-at-requires
-    returns-6)
+    sub_left
+    refused_requires
+    returns_2
+    shared_slice_read_tag
+    unknown_requires
+    refused_requires_2
+    returns_3
+    add_length_at
+    add_from
+    number2_requires
+    cast_held
+    own_length_requires
+    refused_requires_3
+    returns_4
+    add_whole
+    refused_requires_4
+    returns_5
+    add_next
+    field_at_requires
+    returns_6)

@@ -10,88 +10,88 @@ use Rattle.query.proofs.Bytes.{number_more, number_done, below_more, below_all}
 use Rattle.query.proofs.number_at.Statement.{statement}
 use Rattle.query.proofs.number_at.Tie as tie
 
-abbrev invariant-loop : tie.invariant-loop
-invariant-loop query at bytes high₀ taken₀ high taken =
+abbrev invariant_loop : tie.invariant-loop-taken
+invariant_loop query at bytes high₀ taken₀ high taken =
     (taken ≤ bytes) × (high < 256 ^ taken) × (number_from high (take (bytes - taken) (drop (at + taken) query)) ≡ number (take bytes (drop at query)))
 
-abbrev decreases-loop : tie.decreases-loop
-decreases-loop query at bytes high₀ taken₀ high taken = bytes - taken
+abbrev decreases_loop : tie.decreases-loop-taken
+decreases_loop query at bytes high₀ taken₀ high taken = bytes - taken
 
-loop-holds : tie.Need-loop-init invariant-loop decreases-loop
-loop-holds c = (omega arith, omega arith, simp (sub-zero, add-zero))
+loop_holds : tie.Need-loop-taken-init invariant_loop decreases_loop
+loop_holds c = (omega arith, omega arith, simp (sub-zero, add-zero))
 
-add-place : tie.Need-overflow-add-place invariant-loop decreases-loop
-add-place c = omega arith
+add_place : tie.Need-overflow_add-place invariant_loop decreases_loop
+add_place c = omega arith
 
-shared-slice-read-wide : tie.Need-shared-slice-read-wide invariant-loop decreases-loop
-shared-slice-read-wide c = omega arith
+shared_slice_read_wide : tie.Need-bounds-query-place invariant_loop decreases_loop
+shared_slice_read_wide c = omega arith
 
-wide-requires : tie.Need-wide-requires invariant-loop decreases-loop
-wide-requires c κs = tt
+wide_requires : tie.Need-wide-low-requires invariant_loop decreases_loop
+wide_requires c κs = tt
 
-more-fits : (c : tie.After-wide invariant-loop decreases-loop)
-    → c.before.before.before.loop.high * 256 + c.wide.result < 256 ^ (c.before.before.before.loop.taken + 1)
-more-fits c =
+more_fits : (c : tie.After-wide-low invariant_loop decreases_loop)
+    → c.loop-taken.high * 256 + c.wide-low.result < 256 ^ (c.loop-taken.taken + 1)
+more_fits c =
     below_more
-    c.before.before.before.loop.high
-    c.wide.result
-    c.before.before.before.loop.taken
-    c.before.before.before.loop.invariant.1
-    (omega (arith, c.before.shared-slice-known2.given (c.before.before.before.before.before.args.at + c.before.before.before.loop.taken)))
+    c.loop-taken.high
+    c.wide-low.result
+    c.loop-taken.taken
+    c.loop-taken.invariant.1
+    (omega (arith, c.shared_slice_known-in-loop-taken-1.given (c.args.at + c.loop-taken.taken)))
 
-all_fit : (c : tie.After-wide invariant-loop decreases-loop) → c.before.before.before.loop.high * 256 + c.wide.result < 256 ^ 8
+all_fit : (c : tie.After-wide-low invariant_loop decreases_loop) → c.loop-taken.high * 256 + c.wide-low.result < 256 ^ 8
 all_fit c =
     below_all
-    (c.before.before.before.loop.high * 256 + c.wide.result)
-    (c.before.before.before.loop.taken + 1)
+    (c.loop-taken.high * 256 + c.wide-low.result)
+    (c.loop-taken.taken + 1)
     (omega arith)
-    (more-fits c)
+    (more_fits c)
 
-mul-shifted : tie.Need-overflow-mul-shifted invariant-loop decreases-loop
-mul-shifted c = omega (arith, all_fit c)
+mul_shifted : tie.Need-overflow_mul-shifted invariant_loop decreases_loop
+mul_shifted c = omega (arith, all_fit c)
 
-add-high : tie.Need-overflow-add-high invariant-loop decreases-loop
-add-high c = omega (arith, all_fit c)
+add_high : tie.Need-overflow_add-high invariant_loop decreases_loop
+add_high c = omega (arith, all_fit c)
 
-add-taken : tie.Need-overflow-add-taken invariant-loop decreases-loop
-add-taken c = omega arith
+add_taken : tie.Need-overflow_add-taken invariant_loop decreases_loop
+add_taken c = omega arith
 
-loop-less : tie.Need-loop-smaller invariant-loop decreases-loop
-loop-less c = omega arith
+loop_less : tie.Need-loop-taken-smaller invariant_loop decreases_loop
+loop_less c = omega arith
 
-loop-again : tie.Need-loop-preserved invariant-loop decreases-loop
-loop-again c =
-    let a = c.before.before.before.before.before.args in
-    let l = c.before.before.before.loop in (
+loop_again : tie.Need-loop-taken-preserved invariant_loop decreases_loop
+loop_again c =
+    let a = c.args in
+    let l = c.loop-taken in (
       omega arith,
-      more-fits c,
-      rw c.wide.ensures
-          (sym (number_more l.high a.query.now a.at a.bytes l.taken c.before.before.loop-test.true c.before.before.before.before.before.requires.1)
+      more_fits c,
+      rw c.wide-low.ensures
+          (sym (number_more l.high a.query.now a.at a.bytes l.taken c.loop-taken-test.true c.requires.1)
           ∙ l.invariant.2),
     )
 
-returns : tie.Need-returns invariant-loop decreases-loop
+returns : tie.Need-returns invariant_loop decreases_loop
 returns c =
-    let a = c.before.before.before.args in
-    let l = c.before.loop in
+    let a = c.args in
+    let l = c.loop-taken in
     let all : l.taken ≡ a.bytes = omega arith in (
-      sym (number_done l.high a.query.now a.at a.bytes l.taken c.loop-test.false) ∙ l.invariant.2,
+      sym (number_done l.high a.query.now a.at a.bytes l.taken c.loop-taken-test.false) ∙ l.invariant.2,
       subst (λ (n : ℕ). l.high < 256 ^ n) all l.invariant.1,
     )
 
-pub number-at-spec : {M : Type 1} → statement M
-number-at-spec =
+pub number_at_spec : {M : Type 1} → statement M
+number_at_spec =
     tie.close
     (tie.spec
-    invariant-loop
-    decreases-loop
-    loop-holds
-    add-place
-    shared-slice-read-wide
-    wide-requires
-    mul-shifted
-    add-high
-    add-taken
-    loop-less
-    loop-again
+    invariant_loop
+    decreases_loop
+    loop_holds
+    add_place
+    shared_slice_read_wide
+    wide_requires
+    mul_shifted
+    add_high
+    add_taken
+    loop_less
+    loop_again
     returns)

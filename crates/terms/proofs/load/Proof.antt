@@ -14,111 +14,111 @@ use Rattle.terms.proofs.Turn.{Head, none_held, starts, long_refused, at_end, at_
 use Rattle.terms.proofs.load.Statement.{statement}
 use Rattle.terms.proofs.load.Tie as tie
 
-abbrev invariant-loop : tie.invariant-loop
-invariant-loop query values₀ truths₀ reads₀ sources₀ edges₀ counts₀ at₀ values truths reads sources edges counts at =
+abbrev invariant_loop : tie.invariant-loop-refused
+invariant_loop query values₀ truths₀ reads₀ sources₀ edges₀ counts₀ at₀ values truths reads sources edges counts at =
     Head query (tables values truths reads sources edges counts) at
 
-abbrev decreases-loop : tie.decreases-loop
-decreases-loop query values₀ truths₀ reads₀ sources₀ edges₀ counts₀ at₀ values truths reads sources edges counts at =
+abbrev decreases_loop : tie.decreases-loop-refused
+decreases_loop query values₀ truths₀ reads₀ sources₀ edges₀ counts₀ at₀ values truths reads sources edges counts at =
     length query - at
 
-returns : tie.Need-returns invariant-loop decreases-loop
-returns c = long_refused _ _ c.if1.true (none_held c.before.before.requires)
+returns : tie.Need-returns-then-query-gt-MAX_BYTES invariant_loop decreases_loop
+returns c = long_refused _ _ c.if-query-gt-MAX_BYTES.true (none_held c.requires)
 
-loop-holds : tie.Need-loop-init invariant-loop decreases-loop
-loop-holds c = starts _ _ c.if1.false (none_held c.before.before.requires)
+loop_holds : tie.Need-loop-refused-init invariant_loop decreases_loop
+loop_holds c = starts _ _ c.if-query-gt-MAX_BYTES.false (none_held c.requires)
 
-field-at-requires : tie.Need-field-at-requires invariant-loop decreases-loop
-field-at-requires c κs = search rules
+field_at_requires : tie.Need-field_at-requires invariant_loop decreases_loop
+field_at_requires c κs = search rules
 
-enum_told : tie.Need-enum-told invariant-loop decreases-loop
+enum_told : tie.Need-enum_told-1 invariant_loop decreases_loop
 enum_told c = search rules
 
-returns-2 : tie.Need-returns-2 invariant-loop decreases-loop
-returns-2 c = at_end c.before.before.before.loop.invariant (sym c.before.before.field_at.ensures ∙ ap standing_of c.enum_told.given.1)
+returns_2 : tie.Need-returns-in-End invariant_loop decreases_loop
+returns_2 c = at_end c.loop-refused.invariant (sym c.field_at.ensures ∙ ap standing_of c.in-End.is)
 
-enum-known-refused : tie.Need-enum-known-refused invariant-loop decreases-loop
-enum-known-refused c = search rules
+enum_known_refused : tie.Need-enum_known-refused invariant_loop decreases_loop
+enum_known_refused c = search rules
 
-returns-3 : tie.Need-returns-3 invariant-loop decreases-loop
-returns-3 c =
-    at_broken c.before.before.before.before.loop.invariant c.before.refused.given.0.0.offset c.before.refused.given.0.0.number
-    (sym c.before.before.before.field_at.ensures ∙ ap standing_of c.before.refused.given.1)
+returns_3 : tie.Need-returns-in-Refused invariant_loop decreases_loop
+returns_3 c =
+    at_broken c.loop-refused.invariant c.in-Refused.refused.offset c.in-Refused.refused.number
+    (sym c.field_at.ensures ∙ ap standing_of c.in-Refused.is)
 
-enum-known-field : tie.Need-enum-known-field invariant-loop decreases-loop
-enum-known-field c = search rules
+enum_known_field : tie.Need-enum_known-field invariant_loop decreases_loop
+enum_known_field c = search rules
 
-fault-requires : tie.Need-fault-requires invariant-loop decreases-loop
-fault-requires c κs = search rules
+fault_requires : tie.Need-fault-found-requires invariant_loop decreases_loop
+fault_requires c κs = search rules
 
 -- the loop's head and the field that was read there, seen from behind the search for its fault
-abbrev fielded : tie.After-fault invariant-loop decreases-loop → tie.After-field invariant-loop decreases-loop
+abbrev fielded : tie.After-fault-found invariant_loop decreases_loop → tie.In-Next-2 invariant_loop decreases_loop
 fielded r = r.before.before.before.before
 
-abbrev head : tie.After-fault invariant-loop decreases-loop → tie.At-loop invariant-loop decreases-loop
+abbrev head : tie.After-fault-found invariant_loop decreases_loop → tie.At-loop-refused invariant_loop decreases_loop
 head r = (fielded r).before.before.before
 
-abbrev bytes : tie.At-loop invariant-loop decreases-loop → List ℕ
-bytes l = l.before.before.before.args.query.now
+abbrev bytes : tie.At-loop-refused invariant_loop decreases_loop → List ℕ
+bytes l = l.args.query.now
 
-abbrev field : tie.After-fault invariant-loop decreases-loop → Field
-field r = (fielded r).field.given.0.0
+abbrev field : tie.After-fault-found invariant_loop decreases_loop → Field
+field r = (fielded r).in-Next.field
 
-abbrev next : tie.After-fault invariant-loop decreases-loop → ℕ
-next r = (fielded r).field.given.0.1.0
+abbrev next : tie.After-fault-found invariant_loop decreases_loop → ℕ
+next r = (fielded r).in-Next.next
 
-stands : (r : tie.After-fault invariant-loop decreases-loop) → standing 32 (bytes (head r)) (head r).loop.at ≡ Standing.field (kind_of_field (field r)) (numbers_of (field r)) (next r)
-stands r = sym (fielded r).before.before.field_at.ensures ∙ ap standing_of (fielded r).field.given.1
+stands : (r : tie.After-fault-found invariant_loop decreases_loop) → standing 32 (bytes (head r)) (head r).loop-refused.at ≡ Standing.field-1 (kind_of_field (field r)) (numbers_of (field r)) (next r)
+stands r = sym (fielded r).field_at.ensures ∙ ap standing_of (fielded r).in-Next.is
 
-returns-4 : tie.Need-returns-4 invariant-loop decreases-loop
-returns-4 c =
+returns_4 : tie.Need-returns-then-found-ne0 invariant_loop decreases_loop
+returns_4 c =
     let r = c.before in
-    at_fault (head r).loop.invariant (field r) (next r) r.fault.result (stands r) r.fault.ensures c.if2.true
+    at_fault (head r).loop-refused.invariant (field r) (next r) r.fault-found.result (stands r) r.fault-found.ensures c.if-found-ne0.true
 
-put-requires : tie.Need-put-requires invariant-loop decreases-loop
-put-requires c κs =
+put_requires : tie.Need-put-counts-requires invariant_loop decreases_loop
+put_requires c κs =
     let e = c.before.before.before.before.before in
     let r = e.before in
-    at_room (head r).loop.invariant (field r) (next r) r.fault.result (stands r) r.fault.ensures e.if2.false
+    at_room (head r).loop-refused.invariant (field r) (next r) r.fault-found.result (stands r) r.fault-found.ensures e.if-found-ne0.false
 
 -- the tables at the loop's head
-abbrev held : tie.After-fault invariant-loop decreases-loop → Tables
+abbrev held : tie.After-fault-found invariant_loop decreases_loop → Tables
 held r =
-    let l = (head r).loop in
+    let l = (head r).loop-refused in
     tables l.values l.truths l.reads l.sources l.edges l.counts
 
 -- one turn
-turned : (e : tie.Else2 invariant-loop decreases-loop)
-    → Head (bytes (head e.before)) (put_in (field e.before) (held e.before)) (next e.before) × ((head e.before).loop.at < next e.before) × (next e.before ≤ length (bytes (head e.before)))
+turned : (e : tie.Else-found-ne0 invariant_loop decreases_loop)
+    → Head (bytes (head e.before)) (put_in (field e.before) (held e.before)) (next e.before) × ((head e.before).loop-refused.at < next e.before) × (next e.before ≤ length (bytes (head e.before)))
 turned e =
     let r = e.before in
-    at_next (head r).loop.invariant (field r) (next r) r.fault.result (stands r) r.fault.ensures e.if2.false
+    at_next (head r).loop-refused.invariant (field r) (next r) r.fault-found.result (stands r) r.fault-found.ensures e.if-found-ne0.false
 
-loop-less : tie.Need-loop-smaller invariant-loop decreases-loop
-loop-less c = let on = turned c.before.before.before.before.before.before in omega (arith, on.1, on.2)
+loop_less : tie.Need-loop-refused-smaller invariant_loop decreases_loop
+loop_less c = let on = turned c.before.before.before.before.before.before in omega (arith, on.1, on.2)
 
-loop-again : tie.Need-loop-preserved invariant-loop decreases-loop
-loop-again c =
+loop_again : tie.Need-loop-refused-preserved invariant_loop decreases_loop
+loop_again c =
     let e = c.before.before.before.before.before.before in
     let r = e.before in
-    subst (λ (t : Tables). Head (bytes (head r)) t (next r)) (sym c.put.ensures) (turned e).0
+    subst (λ (t : Tables). Head (bytes (head r)) t (next r)) (sym c.put-counts.ensures) (turned e).0
 
 pub load_spec : {M : Type 1} → statement M
 load_spec =
     tie.close
     (tie.spec
-    invariant-loop
-    decreases-loop
+    invariant_loop
+    decreases_loop
     returns
-    loop-holds
-    field-at-requires
+    loop_holds
+    field_at_requires
     enum_told
-    returns-2
-    enum-known-refused
-    returns-3
-    enum-known-field
-    fault-requires
-    returns-4
-    put-requires
-    loop-less
-    loop-again)
+    returns_2
+    enum_known_refused
+    returns_3
+    enum_known_field
+    fault_requires
+    returns_4
+    put_requires
+    loop_less
+    loop_again)

@@ -10,319 +10,319 @@ use Rattle.terms.proofs.put.Statement.{statement}
 use Rattle.terms.proofs.put.Tie as tie
 
 -- there is room for a field of the kind that was told, arm by arm
-room-base : (f : tie.After-field) → f.before.before.args.counts.bases < 256
-room-base f = subst (λ (field : Field). Room field f.before.before.args.counts) f.field.given.1 f.before.before.requires
+room_base : (f : tie.In-FreeBase-2) → f.args.counts.bases < 256
+room_base f = subst (λ (field : Field). Room field f.args.counts) f.in-FreeBase.is f.requires
 
-room-boolean : (f : tie.After-field2) → f.before.before.args.counts.booleans < 64
-room-boolean f = subst (λ (field : Field). Room field f.before.before.args.counts) f.field2.given.1 f.before.before.requires
+room_boolean : (f : tie.In-FreeBoolean-2) → f.args.counts.booleans < 64
+room_boolean f = subst (λ (field : Field). Room field f.args.counts) f.in-FreeBoolean.is f.requires
 
-room-variable : (f : tie.After-enum-told) → f.before.before.args.counts.arrays < 48
-room-variable f = subst (λ (field : Field). Room field f.before.before.args.counts) f.enum_told.given.1 f.before.before.requires
+room_variable : (f : tie.In-Variable) → f.args.counts.arrays < 48
+room_variable f = subst (λ (field : Field). Room field f.args.counts) f.in-Variable.is f.requires
 
-room-write : (f : tie.After-field3) → (f.before.before.args.counts.arrays < 48) × (f.before.before.args.counts.sources < 304) × (f.before.before.args.counts.edges < 112)
-room-write f = subst (λ (field : Field). Room field f.before.before.args.counts) f.field3.given.1 f.before.before.requires
+room_write : (f : tie.In-Write-2) → (f.args.counts.arrays < 48) × (f.args.counts.sources < 304) × (f.args.counts.edges < 112)
+room_write f = subst (λ (field : Field). Room field f.args.counts) f.in-Write.is f.requires
 
-room-conditional : (f : tie.After-field4) → (f.before.before.args.counts.arrays < 48) × (f.before.before.args.counts.edges < 112)
-room-conditional f = subst (λ (field : Field). Room field f.before.before.args.counts) f.field4.given.1 f.before.before.requires
+room_conditional : (f : tie.In-Conditional-2) → (f.args.counts.arrays < 48) × (f.args.counts.edges < 112)
+room_conditional f = subst (λ (field : Field). Room field f.args.counts) f.in-Conditional.is f.requires
 
-room-read : (f : tie.After-field5) → (f.before.before.args.counts.bases < 256) × (f.before.before.args.counts.sources < 304)
-room-read f = subst (λ (field : Field). Room field f.before.before.args.counts) f.field5.given.1 f.before.before.requires
+room_read : (f : tie.In-Read-2) → (f.args.counts.bases < 256) × (f.args.counts.sources < 304)
+room_read f = subst (λ (field : Field). Room field f.args.counts) f.in-Read.is f.requires
 
-room-equality : (f : tie.After-field6) → (f.before.before.args.counts.booleans < 64) × (f.before.before.args.counts.edges < 112)
-room-equality f = subst (λ (field : Field). Room field f.before.before.args.counts) f.field6.given.1 f.before.before.requires
+room_equality : (f : tie.In-Equality-2) → (f.args.counts.booleans < 64) × (f.args.counts.edges < 112)
+room_equality f = subst (λ (field : Field). Room field f.args.counts) f.in-Equality.is f.requires
 
-room-fixed : (f : tie.After-field7) → f.before.before.args.counts.bases < 256
-room-fixed f = subst (λ (field : Field). Room field f.before.before.args.counts) f.field7.given.1 f.before.before.requires
+room_fixed : (f : tie.In-Fixed-2) → f.args.counts.bases < 256
+room_fixed f = subst (λ (field : Field). Room field f.args.counts) f.in-Fixed.is f.requires
 
-enum-known-field : tie.Need-enum-known-field
-enum-known-field c = search rules
+enum_known_field : tie.Need-enum_known-field
+enum_known_field c = search rules
 
-put-base-requires : tie.Need-put-base-requires
-put-base-requires c κs = room-base c.before.before.before
+put_base_requires : tie.Need-put_base-requires
+put_base_requires c κs = room_base c.before.before.before
 
-returns : tie.Need-returns
+returns : tie.Need-returns-in-FreeBase
 returns c =
-    let stored = c.put-base.ensures in
-    rw (c.before.before.before.before.field.given.1, stored.0, stored.1, stored.2)
+    let stored = c.put_base.ensures in
+    rw (c.in-FreeBase.is, stored.0, stored.1, stored.2)
 
-enum-known-field-2 : tie.Need-enum-known-field-2
-enum-known-field-2 c = search rules
+enum_known_field_2 : tie.Need-enum_known-field-in-FreeBoolean-1
+enum_known_field_2 c = search rules
 
-cast-boolean : tie.Need-overflow-cast-boolean
-cast-boolean c = search rules
+cast_boolean : tie.Need-overflow_cast-boolean
+cast_boolean c = search rules
 
-element-write-truths : tie.Need-element-write-truths
-element-write-truths c = omega (arith, room-boolean c.before)
+element_write_truths : tie.Need-bounds-truths-boolean
+element_write_truths c = omega (arith, room_boolean c.before)
 
-add-more-booleans : tie.Need-overflow-add-more-booleans
-add-more-booleans c = omega (arith, room-boolean c.before)
+add_more_booleans : tie.Need-overflow_add-more_booleans
+add_more_booleans c = omega (arith, room_boolean c.before)
 
-returns-2 : tie.Need-returns-2
-returns-2 c = rw c.before.field2.given.1
+returns_2 : tie.Need-returns-in-FreeBoolean
+returns_2 c = rw c.in-FreeBoolean.is
 
-enum_told : tie.Need-enum-told
+enum_told : tie.Need-enum_told-1
 enum_told c = search rules
 
-add-more-arrays : tie.Need-overflow-add-more-arrays
-add-more-arrays c = omega (arith, room-variable c)
+add_more_arrays : tie.Need-overflow_add-more_arrays
+add_more_arrays c = omega (arith, room_variable c)
 
-returns-3 : tie.Need-returns-3
-returns-3 c = rw c.enum_told.given.1
+returns_3 : tie.Need-returns-in-Variable
+returns_3 c = rw c.in-Variable.is
 
-enum-known-field-3 : tie.Need-enum-known-field-3
-enum-known-field-3 c = search rules
+enum_known_field_3 : tie.Need-enum_known-field-in-Write-1
+enum_known_field_3 c = search rules
 
-cast-beneath : tie.Need-overflow-cast-beneath
-cast-beneath c = search rules
+cast_beneath : tie.Need-overflow_cast-beneath
+cast_beneath c = search rules
 
-cast-index : tie.Need-overflow-cast-index
-cast-index c = search rules
+cast_index : tie.Need-overflow_cast-index
+cast_index c = search rules
 
-cast-value : tie.Need-overflow-cast-value
-cast-value c = search rules
+cast_value : tie.Need-overflow_cast-value
+cast_value c = search rules
 
-cast-array : tie.Need-overflow-cast-array
-cast-array c = search rules
+cast_array : tie.Need-overflow_cast-array
+cast_array c = search rules
 
-cast-source : tie.Need-overflow-cast-source
-cast-source c = search rules
+cast_source : tie.Need-overflow_cast-source
+cast_source c = search rules
 
-cast-edge : tie.Need-overflow-cast-edge
-cast-edge c = search rules
+cast_edge : tie.Need-overflow_cast-edge
+cast_edge c = search rules
 
-source-row-requires : tie.Need-source-row-requires
-source-row-requires c κs = search rules
+source_row_requires : tie.Need-source_row-requires
+source_row_requires c κs = search rules
 
-mul-sources : tie.Need-overflow-mul-sources
-mul-sources c = omega (arith, room-write c.before.before.before.before.before)
+mul_sources : tie.Need-offset_bounds-sources-source
+mul_sources c = omega (arith, room_write c.before.before.before.before.before)
 
-element-write-sources : tie.Need-element-write-sources
-element-write-sources c = omega (arith, room-write c.before.before.before.before.before)
+element_write_sources : tie.Need-bounds-sources-source
+element_write_sources c = omega (arith, room_write c.before.before.before.before.before)
 
-edge-row-requires : tie.Need-edge-row-requires
-edge-row-requires c κs = search rules
+edge_row_requires : tie.Need-edge_row-requires
+edge_row_requires c κs = search rules
 
-mul-edges : tie.Need-overflow-mul-edges
-mul-edges c = omega (arith, room-write c.before.before.before.before.before.before)
+mul_edges : tie.Need-offset_bounds-edges-edge
+mul_edges c = omega (arith, room_write c.before.before.before.before.before.before)
 
-element-write-edges : tie.Need-element-write-edges
-element-write-edges c = omega (arith, room-write c.before.before.before.before.before.before)
+element_write_edges : tie.Need-bounds-edges-edge
+element_write_edges c = omega (arith, room_write c.before.before.before.before.before.before)
 
-add-more-arrays-2 : tie.Need-overflow-add-more-arrays-2
-add-more-arrays-2 c = omega (arith, room-write c.before.before.before.before.before.before)
+add_more_arrays_2 : tie.Need-overflow_add-more_arrays-in-Write
+add_more_arrays_2 c = omega (arith, room_write c.before.before.before.before.before.before)
 
-add-more-sources : tie.Need-overflow-add-more-sources
-add-more-sources c = omega (arith, room-write c.before.before.before.before.before.before)
+add_more_sources : tie.Need-overflow_add-more_sources
+add_more_sources c = omega (arith, room_write c.before.before.before.before.before.before)
 
-add-more-edges : tie.Need-overflow-add-more-edges
-add-more-edges c = omega (arith, room-write c.before.before.before.before.before.before)
+add_more_edges : tie.Need-overflow_add-more_edges
+add_more_edges c = omega (arith, room_write c.before.before.before.before.before.before)
 
-returns-4 : tie.Need-returns-4
-returns-4 c = rw (c.before.before.before.before.before.before.field3.given.1, c.before.source_row.ensures, c.edge_row.ensures)
+returns_4 : tie.Need-returns-in-Write
+returns_4 c = rw (c.in-Write.is, c.source_row.ensures, c.edge_row.ensures)
 
-enum-known-field-4 : tie.Need-enum-known-field-4
-enum-known-field-4 c = search rules
+enum_known_field_4 : tie.Need-enum_known-field-in-Conditional-1
+enum_known_field_4 c = search rules
 
-cast-chooser : tie.Need-overflow-cast-chooser
-cast-chooser c = search rules
+cast_chooser : tie.Need-overflow_cast-chooser
+cast_chooser c = search rules
 
-cast-if-true : tie.Need-overflow-cast-if-true
-cast-if-true c = search rules
+cast_if_true : tie.Need-overflow_cast-if_true
+cast_if_true c = search rules
 
-cast-if-false : tie.Need-overflow-cast-if-false
-cast-if-false c = search rules
+cast_if_false : tie.Need-overflow_cast-if_false
+cast_if_false c = search rules
 
-cast-array-2 : tie.Need-overflow-cast-array-2
-cast-array-2 c = search rules
+cast_array_2 : tie.Need-overflow_cast-array-in-Conditional
+cast_array_2 c = search rules
 
-cast-edge-2 : tie.Need-overflow-cast-edge-2
-cast-edge-2 c = search rules
+cast_edge_2 : tie.Need-overflow_cast-edge-in-Conditional
+cast_edge_2 c = search rules
 
-edge-row-requires-2 : tie.Need-edge-row-requires-2
-edge-row-requires-2 c κs = search rules
+edge_row_requires_2 : tie.Need-edge_row-requires-in-Conditional
+edge_row_requires_2 c κs = search rules
 
-mul-edges-2 : tie.Need-overflow-mul-edges-2
-mul-edges-2 c = omega (arith, room-conditional c.before.before.before.before.before)
+mul_edges_2 : tie.Need-offset_bounds-edges-edge-in-Conditional
+mul_edges_2 c = omega (arith, room_conditional c.before.before.before.before.before)
 
-element-write-edges-2 : tie.Need-element-write-edges-2
-element-write-edges-2 c = omega (arith, room-conditional c.before.before.before.before.before)
+element_write_edges_2 : tie.Need-bounds-edges-edge-in-Conditional
+element_write_edges_2 c = omega (arith, room_conditional c.before.before.before.before.before)
 
-add-more-arrays-3 : tie.Need-overflow-add-more-arrays-3
-add-more-arrays-3 c = omega (arith, room-conditional c.before.before.before.before.before)
+add_more_arrays_3 : tie.Need-overflow_add-more_arrays-in-Conditional
+add_more_arrays_3 c = omega (arith, room_conditional c.before.before.before.before.before)
 
-add-more-edges-2 : tie.Need-overflow-add-more-edges-2
-add-more-edges-2 c = omega (arith, room-conditional c.before.before.before.before.before)
+add_more_edges_2 : tie.Need-overflow_add-more_edges-in-Conditional
+add_more_edges_2 c = omega (arith, room_conditional c.before.before.before.before.before)
 
-returns-5 : tie.Need-returns-5
-returns-5 c = rw (c.before.before.before.before.before.field4.given.1, c.edge-row2.ensures)
+returns_5 : tie.Need-returns-in-Conditional
+returns_5 c = rw (c.in-Conditional.is, c.edge_row-in-Conditional.ensures)
 
-enum-known-field-5 : tie.Need-enum-known-field-5
-enum-known-field-5 c = search rules
+enum_known_field_5 : tie.Need-enum_known-field-in-Read-1
+enum_known_field_5 c = search rules
 
-cast-from : tie.Need-overflow-cast-from
-cast-from c = search rules
+cast_from : tie.Need-overflow_cast-from
+cast_from c = search rules
 
-cast-index-2 : tie.Need-overflow-cast-index-2
-cast-index-2 c = search rules
+cast_index_2 : tie.Need-overflow_cast-index-in-Read
+cast_index_2 c = search rules
 
-cast-base : tie.Need-overflow-cast-base
-cast-base c = search rules
+cast_base : tie.Need-overflow_cast-base
+cast_base c = search rules
 
-cast-source-2 : tie.Need-overflow-cast-source-2
-cast-source-2 c = search rules
+cast_source_2 : tie.Need-overflow_cast-source-in-Read
+cast_source_2 c = search rules
 
-mul-values : tie.Need-overflow-mul-values
-mul-values c = omega (arith, room-read c.before.before.before)
+mul_values : tie.Need-offset_bounds-values-base
+mul_values c = omega (arith, room_read c.before.before.before)
 
-element-write-values : tie.Need-element-write-values
-element-write-values c = omega (arith, room-read c.before.before.before)
+element_write_values : tie.Need-bounds-values-base
+element_write_values c = omega (arith, room_read c.before.before.before)
 
-read-row-requires : tie.Need-read-row-requires
-read-row-requires c κs = search rules
+read_row_requires : tie.Need-read_row-requires
+read_row_requires c κs = search rules
 
-mul-reads : tie.Need-overflow-mul-reads
-mul-reads c = omega (arith, room-read c.before.before.before.before)
+mul_reads : tie.Need-offset_bounds-reads-base
+mul_reads c = omega (arith, room_read c.before.before.before.before)
 
-element-write-reads : tie.Need-element-write-reads
-element-write-reads c = omega (arith, room-read c.before.before.before.before)
+element_write_reads : tie.Need-bounds-reads-base
+element_write_reads c = omega (arith, room_read c.before.before.before.before)
 
-source-row-requires-2 : tie.Need-source-row-requires-2
-source-row-requires-2 c κs = search rules
+source_row_requires_2 : tie.Need-source_row-requires-in-Read
+source_row_requires_2 c κs = search rules
 
-mul-sources-2 : tie.Need-overflow-mul-sources-2
-mul-sources-2 c = omega (arith, room-read c.before.before.before.before.before)
+mul_sources_2 : tie.Need-offset_bounds-sources-source-in-Read
+mul_sources_2 c = omega (arith, room_read c.before.before.before.before.before)
 
-element-write-sources-2 : tie.Need-element-write-sources-2
-element-write-sources-2 c = omega (arith, room-read c.before.before.before.before.before)
+element_write_sources_2 : tie.Need-bounds-sources-source-in-Read
+element_write_sources_2 c = omega (arith, room_read c.before.before.before.before.before)
 
-add-more-bases : tie.Need-overflow-add-more-bases
-add-more-bases c = omega (arith, room-read c.before.before.before.before.before)
+add_more_bases : tie.Need-overflow_add-more_bases
+add_more_bases c = omega (arith, room_read c.before.before.before.before.before)
 
-add-more-sources-2 : tie.Need-overflow-add-more-sources-2
-add-more-sources-2 c = omega (arith, room-read c.before.before.before.before.before)
+add_more_sources_2 : tie.Need-overflow_add-more_sources-in-Read
+add_more_sources_2 c = omega (arith, room_read c.before.before.before.before.before)
 
-returns-6 : tie.Need-returns-6
-returns-6 c = rw (c.before.before.before.before.before.field5.given.1, c.before.read-row.ensures, c.source-row2.ensures)
+returns_6 : tie.Need-returns-in-Read
+returns_6 c = rw (c.in-Read.is, c.read_row.ensures, c.source_row-in-Read.ensures)
 
-enum-known-field-6 : tie.Need-enum-known-field-6
-enum-known-field-6 c = search rules
+enum_known_field_6 : tie.Need-enum_known-field-in-Equality-1
+enum_known_field_6 c = search rules
 
-cast-left : tie.Need-overflow-cast-left
-cast-left c = search rules
+cast_left : tie.Need-overflow_cast-left
+cast_left c = search rules
 
-cast-right : tie.Need-overflow-cast-right
-cast-right c = search rules
+cast_right : tie.Need-overflow_cast-right
+cast_right c = search rules
 
-cast-boolean-2 : tie.Need-overflow-cast-boolean-2
-cast-boolean-2 c = search rules
+cast_boolean_2 : tie.Need-overflow_cast-boolean-in-Equality
+cast_boolean_2 c = search rules
 
-cast-edge-3 : tie.Need-overflow-cast-edge-3
-cast-edge-3 c = search rules
+cast_edge_3 : tie.Need-overflow_cast-edge-in-Equality
+cast_edge_3 c = search rules
 
-element-write-truths-2 : tie.Need-element-write-truths-2
-element-write-truths-2 c = omega (arith, room-equality c.before.before.before)
+element_write_truths_2 : tie.Need-bounds-truths-boolean-in-Equality
+element_write_truths_2 c = omega (arith, room_equality c.before.before.before)
 
-edge-row-requires-3 : tie.Need-edge-row-requires-3
-edge-row-requires-3 c κs = search rules
+edge_row_requires_3 : tie.Need-edge_row-requires-in-Equality
+edge_row_requires_3 c κs = search rules
 
-mul-edges-3 : tie.Need-overflow-mul-edges-3
-mul-edges-3 c = omega (arith, room-equality c.before.before.before.before)
+mul_edges_3 : tie.Need-offset_bounds-edges-edge-in-Equality
+mul_edges_3 c = omega (arith, room_equality c.before.before.before.before)
 
-element-write-edges-3 : tie.Need-element-write-edges-3
-element-write-edges-3 c = omega (arith, room-equality c.before.before.before.before)
+element_write_edges_3 : tie.Need-bounds-edges-edge-in-Equality
+element_write_edges_3 c = omega (arith, room_equality c.before.before.before.before)
 
-add-more-booleans-2 : tie.Need-overflow-add-more-booleans-2
-add-more-booleans-2 c = omega (arith, room-equality c.before.before.before.before)
+add_more_booleans_2 : tie.Need-overflow_add-more_booleans-in-Equality
+add_more_booleans_2 c = omega (arith, room_equality c.before.before.before.before)
 
-add-more-edges-3 : tie.Need-overflow-add-more-edges-3
-add-more-edges-3 c = omega (arith, room-equality c.before.before.before.before)
+add_more_edges_3 : tie.Need-overflow_add-more_edges-in-Equality
+add_more_edges_3 c = omega (arith, room_equality c.before.before.before.before)
 
-returns-7 : tie.Need-returns-7
-returns-7 c = rw (c.before.before.before.before.field6.given.1, c.edge-row3.ensures)
+returns_7 : tie.Need-returns-in-Equality
+returns_7 c = rw (c.in-Equality.is, c.edge_row-in-Equality.ensures)
 
-enum-known-field-7 : tie.Need-enum-known-field-7
-enum-known-field-7 c = search rules
+enum_known_field_7 : tie.Need-enum_known-field-in-Fixed-1
+enum_known_field_7 c = search rules
 
-put-base-requires-2 : tie.Need-put-base-requires-2
-put-base-requires-2 c κs = room-fixed c.before.before.before
+put_base_requires_2 : tie.Need-put_base-requires-in-Fixed
+put_base_requires_2 c κs = room_fixed c.before.before.before
 
-returns-8 : tie.Need-returns-8
-returns-8 c =
-    let stored = c.put-base2.ensures in
-    rw (c.before.before.before.before.field7.given.1, stored.0, stored.1, stored.2)
+returns_8 : tie.Need-returns-in-Fixed
+returns_8 c =
+    let stored = c.put_base-in-Fixed.ensures in
+    rw (c.in-Fixed.is, stored.0, stored.1, stored.2)
 
 pub put_spec : {M : Type 1} → statement M
 put_spec =
     tie.close
     (tie.spec
-    enum-known-field
-    put-base-requires
+    enum_known_field
+    put_base_requires
     returns
-    enum-known-field-2
-    cast-boolean
-    element-write-truths
-    add-more-booleans
-    returns-2
+    enum_known_field_2
+    cast_boolean
+    element_write_truths
+    add_more_booleans
+    returns_2
     enum_told
-    add-more-arrays
-    returns-3
-    enum-known-field-3
-    cast-beneath
-    cast-index
-    cast-value
-    cast-array
-    cast-source
-    cast-edge
-    source-row-requires
-    mul-sources
-    element-write-sources
-    edge-row-requires
-    mul-edges
-    element-write-edges
-    add-more-arrays-2
-    add-more-sources
-    add-more-edges
-    returns-4
-    enum-known-field-4
-    cast-chooser
-    cast-if-true
-    cast-if-false
-    cast-array-2
-    cast-edge-2
-    edge-row-requires-2
-    mul-edges-2
-    element-write-edges-2
-    add-more-arrays-3
-    add-more-edges-2
-    returns-5
-    enum-known-field-5
-    cast-from
-    cast-index-2
-    cast-base
-    cast-source-2
-    mul-values
-    element-write-values
-    read-row-requires
-    mul-reads
-    element-write-reads
-    source-row-requires-2
-    mul-sources-2
-    element-write-sources-2
-    add-more-bases
-    add-more-sources-2
-    returns-6
-    enum-known-field-6
-    cast-left
-    cast-right
-    cast-boolean-2
-    cast-edge-3
-    element-write-truths-2
-    edge-row-requires-3
-    mul-edges-3
-    element-write-edges-3
-    add-more-booleans-2
-    add-more-edges-3
-    returns-7
-    enum-known-field-7
-    put-base-requires-2
-    returns-8)
+    add_more_arrays
+    returns_3
+    enum_known_field_3
+    cast_beneath
+    cast_index
+    cast_value
+    cast_array
+    cast_source
+    cast_edge
+    source_row_requires
+    mul_sources
+    element_write_sources
+    edge_row_requires
+    mul_edges
+    element_write_edges
+    add_more_arrays_2
+    add_more_sources
+    add_more_edges
+    returns_4
+    enum_known_field_4
+    cast_chooser
+    cast_if_true
+    cast_if_false
+    cast_array_2
+    cast_edge_2
+    edge_row_requires_2
+    mul_edges_2
+    element_write_edges_2
+    add_more_arrays_3
+    add_more_edges_2
+    returns_5
+    enum_known_field_5
+    cast_from
+    cast_index_2
+    cast_base
+    cast_source_2
+    mul_values
+    element_write_values
+    read_row_requires
+    mul_reads
+    element_write_reads
+    source_row_requires_2
+    mul_sources_2
+    element_write_sources_2
+    add_more_bases
+    add_more_sources_2
+    returns_6
+    enum_known_field_6
+    cast_left
+    cast_right
+    cast_boolean_2
+    cast_edge_3
+    element_write_truths_2
+    edge_row_requires_3
+    mul_edges_3
+    element_write_edges_3
+    add_more_booleans_2
+    add_more_edges_3
+    returns_7
+    enum_known_field_7
+    put_base_requires_2
+    returns_8)

@@ -1,0 +1,7 @@
+-- `faults::good_witnesses` meets its contract: each test and choice is what its function ensures.
+-- Assumes nothing.
+use borrow.Author.Rules.{rules}
+use Rattle.faults.proofs.good_witnesses.Goals as goal
+
+pub returns : goal.returns
+returns c = cc
