@@ -52,11 +52,11 @@ fault_requires : tie.Need-fault-found-requires invariant_loop decreases_loop
 fault_requires c κs = search rules
 
 -- the loop's head and the field that was read there, seen from behind the search for its fault
-abbrev fielded : tie.After-fault-found invariant_loop decreases_loop → tie.In-Next-2 invariant_loop decreases_loop
-fielded r = r.before.before.before.before
+abbrev fielded : tie.After-fault-found invariant_loop decreases_loop → tie.In-Next invariant_loop decreases_loop
+fielded r = r.before
 
 abbrev head : tie.After-fault-found invariant_loop decreases_loop → tie.At-loop-refused invariant_loop decreases_loop
-head r = (fielded r).before.before.before
+head r = (fielded r).before.before
 
 abbrev bytes : tie.At-loop-refused invariant_loop decreases_loop → List ℕ
 bytes l = l.args.query.now
@@ -67,19 +67,19 @@ field r = (fielded r).in-Next.field
 abbrev next : tie.After-fault-found invariant_loop decreases_loop → ℕ
 next r = (fielded r).in-Next.next
 
-stands : (r : tie.After-fault-found invariant_loop decreases_loop) → standing 32 (bytes (head r)) (head r).loop-refused.at ≡ Standing.field-1 (kind_of_field (field r)) (numbers_of (field r)) (next r)
+stands : (r : tie.After-fault-found invariant_loop decreases_loop) → standing 32 (bytes (head r)) (head r).loop-refused.at ≡ Standing.field (kind_of_field (field r)) (numbers_of (field r)) (next r)
 stands r = sym (fielded r).field_at.ensures ∙ ap standing_of (fielded r).in-Next.is
 
 returns_4 : tie.Need-returns-then-found-ne0 invariant_loop decreases_loop
 returns_4 c =
-    let r = c.before in
-    at_fault (head r).loop-refused.invariant (field r) (next r) r.fault-found.result (stands r) r.fault-found.ensures c.if-found-ne0.true
+    let r = c in
+    at_fault (head r.before).loop-refused.invariant (field r.before) (next r.before) r.fault-found.result (stands r.before) r.fault-found.ensures c.if-found-ne0.true
 
 put_requires : tie.Need-put-counts-requires invariant_loop decreases_loop
 put_requires c κs =
-    let e = c.before.before.before.before.before in
-    let r = e.before in
-    at_room (head r).loop-refused.invariant (field r) (next r) r.fault-found.result (stands r) r.fault-found.ensures e.if-found-ne0.false
+    let e = c in
+    let r = e in
+    at_room (head r.before.before.before.before.before.before).loop-refused.invariant (field r.before.before.before.before.before.before) (next r.before.before.before.before.before.before) r.fault-found.result (stands r.before.before.before.before.before.before) r.fault-found.ensures e.if-found-ne0.false
 
 -- the tables at the loop's head
 abbrev held : tie.After-fault-found invariant_loop decreases_loop → Tables
@@ -91,17 +91,17 @@ held r =
 turned : (e : tie.Else-found-ne0 invariant_loop decreases_loop)
     → Head (bytes (head e.before)) (put_in (field e.before) (held e.before)) (next e.before) × ((head e.before).loop-refused.at < next e.before) × (next e.before ≤ length (bytes (head e.before)))
 turned e =
-    let r = e.before in
-    at_next (head r).loop-refused.invariant (field r) (next r) r.fault-found.result (stands r) r.fault-found.ensures e.if-found-ne0.false
+    let r = e in
+    at_next (head r.before).loop-refused.invariant (field r.before) (next r.before) r.fault-found.result (stands r.before) r.fault-found.ensures e.if-found-ne0.false
 
 loop_less : tie.Need-loop-refused-smaller invariant_loop decreases_loop
 loop_less c = let on = turned c.before.before.before.before.before.before in omega (arith, on.1, on.2)
 
 loop_again : tie.Need-loop-refused-preserved invariant_loop decreases_loop
 loop_again c =
-    let e = c.before.before.before.before.before.before in
-    let r = e.before in
-    subst (λ (t : Tables). Head (bytes (head r)) t (next r)) (sym c.put-counts.ensures) (turned e).0
+    let e = c in
+    let r = e in
+    subst (λ (t : Tables). Head (bytes (head r.before.before.before.before.before.before.before)) t (next r.before.before.before.before.before.before.before)) (sym c.put-counts.ensures) (turned e.before.before.before.before.before.before).0
 
 pub load_spec : {M : Type 1} → statement M
 load_spec =

@@ -10,35 +10,35 @@ use Rattle.terms.proofs.put.Statement.{statement}
 use Rattle.terms.proofs.put.Tie as tie
 
 -- there is room for a field of the kind that was told, arm by arm
-room_base : (f : tie.In-FreeBase-2) → f.args.counts.bases < 256
+room_base : (f : tie.In-FreeBase) → f.args.counts.bases < 256
 room_base f = subst (λ (field : Field). Room field f.args.counts) f.in-FreeBase.is f.requires
 
-room_boolean : (f : tie.In-FreeBoolean-2) → f.args.counts.booleans < 64
+room_boolean : (f : tie.In-FreeBoolean) → f.args.counts.booleans < 64
 room_boolean f = subst (λ (field : Field). Room field f.args.counts) f.in-FreeBoolean.is f.requires
 
 room_variable : (f : tie.In-Variable) → f.args.counts.arrays < 48
 room_variable f = subst (λ (field : Field). Room field f.args.counts) f.in-Variable.is f.requires
 
-room_write : (f : tie.In-Write-2) → (f.args.counts.arrays < 48) × (f.args.counts.sources < 304) × (f.args.counts.edges < 112)
+room_write : (f : tie.In-Write) → (f.args.counts.arrays < 48) × (f.args.counts.sources < 304) × (f.args.counts.edges < 112)
 room_write f = subst (λ (field : Field). Room field f.args.counts) f.in-Write.is f.requires
 
-room_conditional : (f : tie.In-Conditional-2) → (f.args.counts.arrays < 48) × (f.args.counts.edges < 112)
+room_conditional : (f : tie.In-Conditional) → (f.args.counts.arrays < 48) × (f.args.counts.edges < 112)
 room_conditional f = subst (λ (field : Field). Room field f.args.counts) f.in-Conditional.is f.requires
 
-room_read : (f : tie.In-Read-2) → (f.args.counts.bases < 256) × (f.args.counts.sources < 304)
+room_read : (f : tie.In-Read) → (f.args.counts.bases < 256) × (f.args.counts.sources < 304)
 room_read f = subst (λ (field : Field). Room field f.args.counts) f.in-Read.is f.requires
 
-room_equality : (f : tie.In-Equality-2) → (f.args.counts.booleans < 64) × (f.args.counts.edges < 112)
+room_equality : (f : tie.In-Equality) → (f.args.counts.booleans < 64) × (f.args.counts.edges < 112)
 room_equality f = subst (λ (field : Field). Room field f.args.counts) f.in-Equality.is f.requires
 
-room_fixed : (f : tie.In-Fixed-2) → f.args.counts.bases < 256
+room_fixed : (f : tie.In-Fixed) → f.args.counts.bases < 256
 room_fixed f = subst (λ (field : Field). Room field f.args.counts) f.in-Fixed.is f.requires
 
 enum_known_field : tie.Need-enum_known-field
 enum_known_field c = search rules
 
 put_base_requires : tie.Need-put_base-requires
-put_base_requires c κs = room_base c.before.before.before
+put_base_requires c κs = room_base c.before.before
 
 returns : tie.Need-returns-in-FreeBase
 returns c =
@@ -94,7 +94,7 @@ source_row_requires : tie.Need-source_row-requires
 source_row_requires c κs = search rules
 
 mul_sources : tie.Need-offset_bounds-sources-source
-mul_sources c = omega (arith, room_write c.before.before.before.before.before)
+mul_sources c = omega (arith, room_write c.before.before.before.before)
 
 element_write_sources : tie.Need-bounds-sources-source
 element_write_sources c = omega (arith, room_write c.before.before.before.before.before)
@@ -106,16 +106,16 @@ mul_edges : tie.Need-offset_bounds-edges-edge
 mul_edges c = omega (arith, room_write c.before.before.before.before.before.before)
 
 element_write_edges : tie.Need-bounds-edges-edge
-element_write_edges c = omega (arith, room_write c.before.before.before.before.before.before)
+element_write_edges c = omega (arith, room_write c.before.before.before.before.before.before.before)
 
 add_more_arrays_2 : tie.Need-overflow_add-more_arrays-in-Write
-add_more_arrays_2 c = omega (arith, room_write c.before.before.before.before.before.before)
+add_more_arrays_2 c = omega (arith, room_write c.before.before.before.before.before.before.before)
 
 add_more_sources : tie.Need-overflow_add-more_sources
-add_more_sources c = omega (arith, room_write c.before.before.before.before.before.before)
+add_more_sources c = omega (arith, room_write c.before.before.before.before.before.before.before)
 
 add_more_edges : tie.Need-overflow_add-more_edges
-add_more_edges c = omega (arith, room_write c.before.before.before.before.before.before)
+add_more_edges c = omega (arith, room_write c.before.before.before.before.before.before.before)
 
 returns_4 : tie.Need-returns-in-Write
 returns_4 c = rw (c.in-Write.is, c.source_row.ensures, c.edge_row.ensures)
@@ -142,7 +142,7 @@ edge_row_requires_2 : tie.Need-edge_row-requires-in-Conditional
 edge_row_requires_2 c κs = search rules
 
 mul_edges_2 : tie.Need-offset_bounds-edges-edge-in-Conditional
-mul_edges_2 c = omega (arith, room_conditional c.before.before.before.before.before)
+mul_edges_2 c = omega (arith, room_conditional c.before.before.before.before)
 
 element_write_edges_2 : tie.Need-bounds-edges-edge-in-Conditional
 element_write_edges_2 c = omega (arith, room_conditional c.before.before.before.before.before)
@@ -172,7 +172,7 @@ cast_source_2 : tie.Need-overflow_cast-source-in-Read
 cast_source_2 c = search rules
 
 mul_values : tie.Need-offset_bounds-values-base
-mul_values c = omega (arith, room_read c.before.before.before)
+mul_values c = omega (arith, room_read c.before.before)
 
 element_write_values : tie.Need-bounds-values-base
 element_write_values c = omega (arith, room_read c.before.before.before)
@@ -184,22 +184,22 @@ mul_reads : tie.Need-offset_bounds-reads-base
 mul_reads c = omega (arith, room_read c.before.before.before.before)
 
 element_write_reads : tie.Need-bounds-reads-base
-element_write_reads c = omega (arith, room_read c.before.before.before.before)
+element_write_reads c = omega (arith, room_read c.before.before.before.before.before)
 
 source_row_requires_2 : tie.Need-source_row-requires-in-Read
 source_row_requires_2 c κs = search rules
 
 mul_sources_2 : tie.Need-offset_bounds-sources-source-in-Read
-mul_sources_2 c = omega (arith, room_read c.before.before.before.before.before)
+mul_sources_2 c = omega (arith, room_read c.before.before.before.before.before.before)
 
 element_write_sources_2 : tie.Need-bounds-sources-source-in-Read
-element_write_sources_2 c = omega (arith, room_read c.before.before.before.before.before)
+element_write_sources_2 c = omega (arith, room_read c.before.before.before.before.before.before.before)
 
 add_more_bases : tie.Need-overflow_add-more_bases
-add_more_bases c = omega (arith, room_read c.before.before.before.before.before)
+add_more_bases c = omega (arith, room_read c.before.before.before.before.before.before.before)
 
 add_more_sources_2 : tie.Need-overflow_add-more_sources-in-Read
-add_more_sources_2 c = omega (arith, room_read c.before.before.before.before.before)
+add_more_sources_2 c = omega (arith, room_read c.before.before.before.before.before.before.before)
 
 returns_6 : tie.Need-returns-in-Read
 returns_6 c = rw (c.in-Read.is, c.read_row.ensures, c.source_row-in-Read.ensures)
@@ -229,13 +229,13 @@ mul_edges_3 : tie.Need-offset_bounds-edges-edge-in-Equality
 mul_edges_3 c = omega (arith, room_equality c.before.before.before.before)
 
 element_write_edges_3 : tie.Need-bounds-edges-edge-in-Equality
-element_write_edges_3 c = omega (arith, room_equality c.before.before.before.before)
+element_write_edges_3 c = omega (arith, room_equality c.before.before.before.before.before)
 
 add_more_booleans_2 : tie.Need-overflow_add-more_booleans-in-Equality
-add_more_booleans_2 c = omega (arith, room_equality c.before.before.before.before)
+add_more_booleans_2 c = omega (arith, room_equality c.before.before.before.before.before)
 
 add_more_edges_3 : tie.Need-overflow_add-more_edges-in-Equality
-add_more_edges_3 c = omega (arith, room_equality c.before.before.before.before)
+add_more_edges_3 c = omega (arith, room_equality c.before.before.before.before.before)
 
 returns_7 : tie.Need-returns-in-Equality
 returns_7 c = rw (c.in-Equality.is, c.edge_row-in-Equality.ensures)
@@ -244,7 +244,7 @@ enum_known_field_7 : tie.Need-enum_known-field-in-Fixed-1
 enum_known_field_7 c = search rules
 
 put_base_requires_2 : tie.Need-put_base-requires-in-Fixed
-put_base_requires_2 c κs = room_fixed c.before.before.before
+put_base_requires_2 c κs = room_fixed c.before.before
 
 returns_8 : tie.Need-returns-in-Fixed
 returns_8 c =

@@ -9,4 +9,4 @@ pub returns-then-shut : goal.returns-then-shut
 returns-then-shut c = sym (shut_none _ _ _ _ (sym c.shut_to-shut.ensures ∙ c.if-shut.true))
 
 pub returns : goal.returns
-returns c = c.before.before.Way-of.ensures ∙ sym (may_open_lem _ _ _ _ (sym c.shut_to-shut.ensures ∙ c.if-shut.false))
+returns c = c.before.before.way_of-way.ensures ∙ sym (may_open_lem _ _ _ _ (sym c.shut_to-shut.ensures ∙ c.if-shut.false))

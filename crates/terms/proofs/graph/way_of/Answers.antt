@@ -1,5 +1,7 @@
 -- `terms::graph::way_of` meets its contract, test by test.
 -- Assumes nothing.
+use Prim.Native.Nat.{◌/◌, ◌%◌}
+use mathlib.Core.List.{[]}
 use mathlib.Core.Path.{sym}
 use borrow.Author.Rules.{rules}
 use Rattle.terms.specs.Graph.{open_in}
@@ -11,12 +13,18 @@ returns-then-guard-eq-DIFFERS c = sym (may_write _ _ c.if-guard-eq-DIFFERS.true)
 
 pub returns-then-truth-eq1 : goal.returns-then-truth-eq1
 unfolding open_in
-returns-then-truth-eq1 c = sym (open_true _ _ _ _ _ _ _ _ c.if-guard-eq-DIFFERS.false c.if-truth-eq1.true)
+returns-then-truth-eq1 c =
+    let row = c.args.row in
+    sym (open_true [] c.args.truths.now 1 (row % 64) (row / 64 % 64) (row / 4096 % 64) (row / 262144 % 256) (row / 67108864) c.if-guard-eq-DIFFERS.false c.if-truth-eq1.true)
 
 pub returns-then-guard-eq-CHOOSES : goal.returns-then-guard-eq-CHOOSES
 unfolding open_in
-returns-then-guard-eq-CHOOSES c = sym (open_other _ _ _ _ _ _ _ _ c.if-guard-eq-CHOOSES.true c.if-truth-eq1.false)
+returns-then-guard-eq-CHOOSES c =
+    let row = c.args.row in
+    sym (open_other [] c.args.truths.now 1 (row % 64) (row / 64 % 64) (row / 4096 % 64) (row / 262144 % 256) (row / 67108864) c.if-guard-eq-CHOOSES.true c.if-truth-eq1.false)
 
 pub returns : goal.returns
 unfolding open_in
-returns c = sym (shut_false _ _ _ _ _ _ _ _ c.if-guard-eq-DIFFERS.false c.if-guard-eq-CHOOSES.false c.if-truth-eq1.false)
+returns c =
+    let row = c.args.row in
+    sym (shut_false [] c.args.truths.now 1 (row % 64) (row / 64 % 64) (row / 4096 % 64) (row / 262144 % 256) (row / 67108864) c.if-guard-eq-DIFFERS.false c.if-guard-eq-CHOOSES.false c.if-truth-eq1.false)
