@@ -14,82 +14,82 @@ use Rattle.reach.proofs.Words.{no_edges, way_shut, way_ends, way_open}
 use Rattle.reach.proofs.adjacency.Statement.{statement}
 use Rattle.reach.proofs.adjacency.Tie as tie
 
-abbrev invariant-loop : tie.invariant-loop
-invariant-loop values truths edges count x words₀ k₀ words k = (k ≤ count) × Adjacent (concat_map (open_in values truths x) (take k edges)) words
+abbrev invariant_loop : tie.invariant-loop-k
+invariant_loop values truths edges count x words₀ k₀ words k = (k ≤ count) × Adjacent (concat_map (open_in values truths x) (take k edges)) words
 
-abbrev decreases-loop : tie.decreases-loop
-decreases-loop values truths edges count x words₀ k₀ words k = count - k
+abbrev decreases_loop : tie.decreases-loop-k
+decreases_loop values truths edges count x words₀ k₀ words k = count - k
 
-loop-holds : tie.Need-loop-init invariant-loop decreases-loop
-loop-holds c =
+loop_holds : tie.Need-loop-k-init invariant_loop decreases_loop
+loop_holds c =
     let cleared = c.requires.1 in
     (omega arith, subst (Adjacent []) (sym cleared) no_edges)
 
-mul-row : tie.Need-overflow-mul-row invariant-loop decreases-loop
-mul-row c = omega (arith, c.before.before.requires.0.few)
+mul_row : tie.Need-offset_bounds-edges-k invariant_loop decreases_loop
+mul_row c = omega (arith, c.requires.0.few)
 
-element-copy-out-row : tie.Need-element-copy-out-row invariant-loop decreases-loop
-element-copy-out-row c = omega (arith, c.before.before.requires.0.few)
+element_copy_out_row : tie.Need-bounds-edges-k invariant_loop decreases_loop
+element_copy_out_row c = omega (arith, c.requires.0.few)
 
-open-way-requires : tie.Need-open-way-requires invariant-loop decreases-loop
-open-way-requires c κs = search rules
+open_way_requires : tie.Need-open_way-way-requires invariant_loop decreases_loop
+open_way_requires c κs = search rules
 
-inside : (c : tie.In-loop invariant-loop decreases-loop) → c.before.loop.k < length c.before.before.args.edges.now
-inside c = omega (arith, c.loop-test.true, c.before.before.requires.0.few, c.before.before.requires.0.long)
+inside : (c : tie.In-loop-k invariant_loop decreases_loop) → c.loop-k.k < length c.args.edges.now
+inside c = omega (arith, c.loop-k-test.true, c.requires.0.few, c.requires.0.long)
 
-set-edge-requires : tie.Need-set-edge-requires invariant-loop decreases-loop
-set-edge-requires c κs =
-    let o = c.before.before in
-    let i = o.before.before in
-    let h = i.before.loop in
-    let s = i.before.before in
-    way_ends s.args.values.now s.args.truths.now s.args.x (get_or s.args.edges.now h.k 0) o.open-way.result o.open-way.ensures c.before.if1.true (s.requires.0.ends h.k i.loop-test.true)
+set_edge_requires : tie.Need-set_edge-requires invariant_loop decreases_loop
+set_edge_requires c κs =
+    let o = c in
+    let i = o in
+    let h = i.loop-k in
+    let s = i in
+    way_ends s.args.values.now s.args.truths.now s.args.x (get_or s.args.edges.now h.k 0) o.open_way-way.result o.open_way-way.ensures c.if-open.true (s.requires.0.ends h.k i.loop-k-test.true)
 
-add-k : tie.Need-overflow-add-k invariant-loop decreases-loop
-add-k c = omega (arith, c.before.before.before.before.before.requires.0.few)
+add_k : tie.Need-overflow_add-k invariant_loop decreases_loop
+add_k c = omega (arith, c.requires.0.few)
 
-loop-less : tie.Need-loop-smaller invariant-loop decreases-loop
-loop-less c = omega arith
+loop_less : tie.Need-loop-k-smaller invariant_loop decreases_loop
+loop_less c = omega arith
 
-loop-again : tie.Need-loop-preserved invariant-loop decreases-loop
-loop-again c =
-    let o = c.before in
-    let i = o.before.before in
-    let h = i.before.loop in
-    let s = i.before.before in
+loop_again : tie.Need-loop-k-preserved invariant_loop decreases_loop
+loop_again c =
+    let o = c in
+    let i = o in
+    let h = i.loop-k in
+    let s = i in
     let f = open_in s.args.values.now s.args.truths.now s.args.x in
     ⊎_elim
     (λ w.
-    let put = w.3 ∙ w.2.ensures in (
-      omega (arith, i.loop-test.true),
+    let put = w.words-is ∙ w.set_edge.ensures in (
+      omega (arith, i.loop-k-test.true),
       subst (Adjacent (concat_map f (take (h.k + 1) s.args.edges.now))) (sym put)
-          (way_open s.args.values.now s.args.truths.now s.args.x s.args.edges.now h.k h.words h.invariant.1 (inside i) o.open-way.result o.open-way.ensures w.0.taken (s.requires.0.ends h.k i.loop-test.true)),
+          (way_open s.args.values.now s.args.truths.now s.args.x s.args.edges.now h.k h.words h.invariant.1 (inside i.before.before.before.before) o.open_way-way.result o.open_way-way.ensures w.if-open.true (s.requires.0.ends h.k i.loop-k-test.true)),
     ))
     (λ w. (
-      omega (arith, i.loop-test.true),
-      subst (Adjacent (concat_map f (take (h.k + 1) s.args.edges.now))) (sym w.1)
-          (way_shut s.args.values.now s.args.truths.now s.args.x s.args.edges.now h.k h.words h.invariant.1 (inside i) o.open-way.result o.open-way.ensures w.0.left),
+      omega (arith, i.loop-k-test.true),
+      subst (Adjacent (concat_map f (take (h.k + 1) s.args.edges.now))) (sym w.words-is)
+          (way_shut s.args.values.now s.args.truths.now s.args.x s.args.edges.now h.k h.words h.invariant.1 (inside i.before.before.before.before) o.open_way-way.result o.open_way-way.ensures w.if-open.false),
     ))
-    c.if1.branch
+    c.if-open.branch-raw
 
-returns : tie.Need-returns invariant-loop decreases-loop
+returns : tie.Need-returns invariant_loop decreases_loop
 returns c =
-    let s = c.before.before in
-    let ended : c.before.loop.k ≡ s.args.count = omega arith in
-    subst (λ (k : ℕ). Adjacent (concat_map (open_in s.args.values.now s.args.truths.now s.args.x) (take k s.args.edges.now)) c.before.loop.words) ended c.before.loop.invariant.1
+    let s = c in
+    let ended : c.loop-k.k ≡ s.args.count = omega arith in
+    subst (λ (k : ℕ). Adjacent (concat_map (open_in s.args.values.now s.args.truths.now s.args.x) (take k s.args.edges.now)) c.loop-k.words) ended c.loop-k.invariant.1
 
-pub adjacency-spec : {M : Type 1} → statement M
-adjacency-spec =
+pub adjacency_spec : {M : Type 1} → statement M
+adjacency_spec =
     tie.close
     (tie.spec
-    invariant-loop
-    decreases-loop
-    loop-holds
-    mul-row
-    element-copy-out-row
-    open-way-requires
-    set-edge-requires
-    add-k
-    loop-less
-    loop-again
+    invariant_loop
+    decreases_loop
+    loop_holds
+    mul_row
+    element_copy_out_row
+    open_way_requires
+    set_edge_requires
+    add_k
+    loop_less
+    loop_again
     returns)

@@ -14,106 +14,106 @@ use Rattle.reach.proofs.Turns.{gathered_shut, gathered_open}
 use Rattle.reach.proofs.gather.Statement.{statement}
 use Rattle.reach.proofs.gather.Tie as tie
 
-abbrev invariant-loop : tie.invariant-loop
-invariant-loop truths edges count words₀ again₀ k₀ words again k = (k ≤ count) × (again ≤ k) × Gathered truths edges k words again
+abbrev invariant_loop : tie.invariant-loop-k
+invariant_loop truths edges count words₀ again₀ k₀ words again k = (k ≤ count) × (again ≤ k) × Gathered truths edges k words again
 
-abbrev decreases-loop : tie.decreases-loop
-decreases-loop truths edges count words₀ again₀ k₀ words again k = count - k
+abbrev decreases_loop : tie.decreases-loop-k
+decreases_loop truths edges count words₀ again₀ k₀ words again k = count - k
 
-inside : (c : tie.In-loop invariant-loop decreases-loop) → c.before.loop.k < length c.before.before.args.edges.now
-inside c = omega (arith, c.loop-test.true, c.before.before.requires.0.few, c.before.before.requires.0.long)
+inside : (c : tie.In-loop-k invariant_loop decreases_loop) → c.loop-k.k < length c.args.edges.now
+inside c = omega (arith, c.loop-k-test.true, c.requires.0.few, c.requires.0.long)
 
 -- the ends of a way that is open are array terms
-ends : (c : tie.Then1 invariant-loop decreases-loop) → (c.before.Way-of.result.left < 48) × (c.before.Way-of.result.right < 48)
+ends : (c : tie.Then-open invariant_loop decreases_loop) → (c.way_of-way.result.left < 48) × (c.way_of-way.result.right < 48)
 ends c =
-    let o = c.before in
-    let i = o.before.before in
-    let h = i.before.loop in
-    let s = i.before.before in
-    way_ends [] s.args.truths.now 1 (get_or s.args.edges.now h.k 0) o.Way-of.result o.Way-of.ensures c.if1.true (s.requires.0.ends h.k i.loop-test.true)
+    let o = c in
+    let i = o in
+    let h = i.loop-k in
+    let s = i in
+    way_ends [] s.args.truths.now 1 (get_or s.args.edges.now h.k 0) o.way_of-way.result o.way_of-way.ensures c.if-open.true (s.requires.0.ends h.k i.loop-k-test.true)
 
 -- the same of what is equal
-gathered-same : {truths rows : List ℕ} (k : ℕ) {words words' : List ℕ} {again again' : ℕ} → words' ≡ words → again' ≡ again → Gathered truths rows k words again → Gathered truths rows k words' again'
-gathered-same k a b known = rw (a, b) known
+gathered_same : {truths rows : List ℕ} (k : ℕ) {words words' : List ℕ} {again again' : ℕ} → words' ≡ words → again' ≡ again → Gathered truths rows k words again → Gathered truths rows k words' again'
+gathered_same k a b known = rw (a, b) known
 
-loop-holds : tie.Need-loop-init invariant-loop decreases-loop
-loop-holds c = (omega arith, omega arith, record { adjacent = subst (Adjacent []) (sym c.requires.1) no_edges; apart = λ none i j a b before below. absurd (omega arith) })
+loop_holds : tie.Need-loop-k-init invariant_loop decreases_loop
+loop_holds c = (omega arith, omega arith, record { adjacent = subst (Adjacent []) (sym c.requires.1) no_edges; apart = λ none i j a b before below. absurd (omega arith) })
 
-mul-row : tie.Need-overflow-mul-row invariant-loop decreases-loop
-mul-row c = omega (arith, c.before.before.requires.0.few)
+mul_row : tie.Need-offset_bounds-edges-k invariant_loop decreases_loop
+mul_row c = omega (arith, c.requires.0.few)
 
-element-copy-out-row : tie.Need-element-copy-out-row invariant-loop decreases-loop
-element-copy-out-row c = omega (arith, c.before.before.requires.0.few)
+element_copy_out_row : tie.Need-bounds-edges-k invariant_loop decreases_loop
+element_copy_out_row c = omega (arith, c.requires.0.few)
 
-way-of-requires : tie.Need-way-of-requires invariant-loop decreases-loop
-way-of-requires c κs = search rules
+way_of_requires : tie.Need-way_of-way-requires invariant_loop decreases_loop
+way_of_requires c κs = search rules
 
-mul-word : tie.Need-overflow-mul-word invariant-loop decreases-loop
-mul-word c = omega (arith, (ends c).0)
+mul_word : tie.Need-offset_bounds-words-left invariant_loop decreases_loop
+mul_word c = omega (arith, (ends c).0)
 
-element-copy-out-word : tie.Need-element-copy-out-word invariant-loop decreases-loop
-element-copy-out-word c = omega (arith, (ends c).0)
+element_copy_out_word : tie.Need-bounds-words-left invariant_loop decreases_loop
+element_copy_out_word c = omega (arith, (ends c.before).0)
 
-shr-shifted : tie.Need-overflow-shr-shifted invariant-loop decreases-loop
-shr-shifted c = omega (arith, (ends c.before).1)
+shr_shifted : tie.Need-overflow_shr-shifted invariant_loop decreases_loop
+shr_shifted c = omega (arith, (ends c.before.before).1)
 
-add-again : tie.Need-overflow-add-again invariant-loop decreases-loop
-add-again c =
-    let l = c.before.before.before.before.before in
-    omega (arith, l.loop.invariant.1, l.loop.invariant.0, l.before.requires.0.few)
+add_again : tie.Need-overflow_add-again invariant_loop decreases_loop
+add_again c =
+    let l = c in
+    omega (arith, l.loop-k.invariant.1, l.loop-k.invariant.0, l.requires.0.few)
 
-set-edge-requires : tie.Need-set-edge-requires invariant-loop decreases-loop
-set-edge-requires c κs = ends c.before.before
+set_edge_requires : tie.Need-set_edge-requires invariant_loop decreases_loop
+set_edge_requires c κs = ends c.before.before.before
 
-add-k : tie.Need-overflow-add-k invariant-loop decreases-loop
-add-k c = omega (arith, c.before.before.before.before.before.requires.0.few)
+add_k : tie.Need-overflow_add-k invariant_loop decreases_loop
+add_k c = omega (arith, c.requires.0.few)
 
-loop-less : tie.Need-loop-smaller invariant-loop decreases-loop
-loop-less c = omega arith
+loop_less : tie.Need-loop-k-smaller invariant_loop decreases_loop
+loop_less c = omega arith
 
-loop-again : tie.Need-loop-preserved invariant-loop decreases-loop
-loop-again c =
-    let o = c.before in
-    let i = o.before.before in
-    let h = i.before.loop in
-    let s = i.before.before in
-    let way = o.Way-of.result in
+loop_again : tie.Need-loop-k-preserved invariant_loop decreases_loop
+loop_again c =
+    let o = c in
+    let i = o in
+    let h = i.loop-k in
+    let s = i in
+    let way = o.way_of-way.result in
     ⊎_elim
     (λ w. (
-      omega (arith, i.loop-test.true),
-      omega (arith, w.5, h.invariant.1),
-      gathered-same _ (w.4 ∙ w.3.ensures) w.5
-          (gathered_open s.args.truths.now s.args.edges.now h.k h.again h.words h.invariant.2 (inside i) way o.Way-of.ensures w.0.taken (s.requires.0.ends h.k i.loop-test.true)),
+      omega (arith, i.loop-k-test.true),
+      omega (arith, w.again-is, h.invariant.1),
+      gathered_same _ (w.words-is ∙ w.set_edge.ensures) w.again-is
+          (gathered_open s.args.truths.now s.args.edges.now h.k h.again h.words h.invariant.2 (inside i.before.before.before.before) way o.way_of-way.ensures w.if-open.true (s.requires.0.ends h.k i.loop-k-test.true)),
     ))
     (λ w. (
-      omega (arith, i.loop-test.true),
-      omega (arith, w.2, h.invariant.1),
-      gathered-same _ w.1 w.2 (gathered_shut s.args.truths.now s.args.edges.now h.k h.again h.words h.invariant.2 (inside i) way o.Way-of.ensures w.0.left),
+      omega (arith, i.loop-k-test.true),
+      omega (arith, w.again-is, h.invariant.1),
+      gathered_same _ w.words-is w.again-is (gathered_shut s.args.truths.now s.args.edges.now h.k h.again h.words h.invariant.2 (inside i.before.before.before.before) way o.way_of-way.ensures w.if-open.false),
     ))
-    c.if1.branch
+    c.if-open.branch-raw
 
-returns : tie.Need-returns invariant-loop decreases-loop
+returns : tie.Need-returns invariant_loop decreases_loop
 returns c =
-    let s = c.before.before in
-    let ended : c.before.loop.k ≡ s.args.count = omega arith in
-    subst (λ (k : ℕ). Gathered s.args.truths.now s.args.edges.now k c.before.loop.words c.before.loop.again) ended c.before.loop.invariant.2
+    let s = c in
+    let ended : c.loop-k.k ≡ s.args.count = omega arith in
+    subst (λ (k : ℕ). Gathered s.args.truths.now s.args.edges.now k c.loop-k.words c.loop-k.again) ended c.loop-k.invariant.2
 
-pub gather-spec : {M : Type 1} → statement M
-gather-spec =
+pub gather_spec : {M : Type 1} → statement M
+gather_spec =
     tie.close
     (tie.spec
-    invariant-loop
-    decreases-loop
-    loop-holds
-    mul-row
-    element-copy-out-row
-    way-of-requires
-    mul-word
-    element-copy-out-word
-    shr-shifted
-    add-again
-    set-edge-requires
-    add-k
-    loop-less
-    loop-again
+    invariant_loop
+    decreases_loop
+    loop_holds
+    mul_row
+    element_copy_out_row
+    way_of_requires
+    mul_word
+    element_copy_out_word
+    shr_shifted
+    add_again
+    set_edge_requires
+    add_k
+    loop_less
+    loop_again
     returns)

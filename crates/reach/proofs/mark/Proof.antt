@@ -17,165 +17,165 @@ use Rattle.reach.proofs.Links.{Met, met_most, value_most, none_met, first_of, me
 use Rattle.reach.proofs.mark.Statement.{statement}
 use Rattle.reach.proofs.mark.Tie as tie
 
-abbrev invariant-loop : tie.invariant-loop
-invariant-loop values truths edges ways sources count arrays rows₀ next₀ pairs₀ first₀ value₀ neighbours₀ again rows next pairs first value neighbours =
+abbrev invariant_loop : tie.invariant-loop-first
+invariant_loop values truths edges ways sources count arrays rows₀ next₀ pairs₀ first₀ value₀ neighbours₀ again rows next pairs first value neighbours =
     (first ≤ count) × (length rows ≡ length rows₀) × (length next ≡ length next₀)
     × Met (open_to values truths edges ways) (sources_of values sources count) arrays (rows_in rows) next first pairs
     × Turnable values truths edges ways value neighbours
 
-abbrev decreases-loop : tie.decreases-loop
-decreases-loop values truths edges ways sources count arrays rows₀ next₀ pairs₀ first₀ value₀ neighbours₀ again rows next pairs first value neighbours = count - first
+abbrev decreases_loop : tie.decreases-loop-first
+decreases_loop values truths edges ways sources count arrays rows₀ next₀ pairs₀ first₀ value₀ neighbours₀ again rows next pairs first value neighbours = count - first
 
 -- the function's entry, seen from the loop's head
-abbrev start : tie.At-loop invariant-loop decreases-loop → tie.Start invariant-loop decreases-loop
+abbrev start : tie.At-loop-first invariant_loop decreases_loop → tie.Start invariant_loop decreases_loop
 start l = l.before.before.before.before.before
 
 -- the sources and the open edges that are lent
-abbrev lent-to : tie.Start invariant-loop decreases-loop → Sources
-lent-to s = sources_of s.args.values.now s.args.sources.now s.args.count
+abbrev lent_to : tie.Start invariant_loop decreases_loop → Sources
+lent_to s = sources_of s.args.values.now s.args.sources.now s.args.count
 
-abbrev opened : tie.Start invariant-loop decreases-loop → Edges
+abbrev opened : tie.Start invariant_loop decreases_loop → Edges
 opened s = open_to s.args.values.now s.args.truths.now s.args.edges.now s.args.ways
 
-fit : (s : tie.Start invariant-loop decreases-loop) → Fit (opened s) (lent-to s) s.args.arrays
+fit : (s : tie.Start invariant_loop decreases_loop) → Fit (opened s) (lent_to s) s.args.arrays
 fit s = record { ends = lent_ends s.requires.within.lent s.args.values.now s.args.truths.now; sources = s.requires.within.sources; origin = s.requires.within.origin }
 
 -- the words of one index value are those of another that is equal
-at_value : (s : tie.Start invariant-loop decreases-loop) {x y : ℕ} {words : List ℕ} → x ≡ y → Adjacent (opened s x) words → Adjacent (opened s y) words
+at_value : (s : tie.Start invariant_loop decreases_loop) {x y : ℕ} {words : List ℕ} → x ≡ y → Adjacent (opened s x) words → Adjacent (opened s y) words
 at_value s {words = words} is known = subst (λ (z : ℕ). Adjacent (opened s z) words) is known
 
 -- the same of what is equal
-turnable-same : (s : tie.Start invariant-loop decreases-loop) {words words' : List ℕ} {value value' : ℕ} → words' ≡ words → value' ≡ value
+turnable_same : (s : tie.Start invariant_loop decreases_loop) {words words' : List ℕ} {value value' : ℕ} → words' ≡ words → value' ≡ value
     → Turnable s.args.values.now s.args.truths.now s.args.edges.now s.args.ways value words → Turnable s.args.values.now s.args.truths.now s.args.edges.now s.args.ways value' words'
-turnable-same s {words' = words'} {value = value} a b known =
+turnable_same s {words' = words'} {value = value} a b known =
     let turnable = Turnable s.args.values.now s.args.truths.now s.args.edges.now s.args.ways in
     subst (λ (v : ℕ). turnable v words') (sym b) (subst (turnable value) (sym a) known)
 
 -- there are rows enough
-enough : (s : tie.Start invariant-loop decreases-loop) → s.args.ways ≤ length s.args.edges.now
+enough : (s : tie.Start invariant_loop decreases_loop) → s.args.ways ≤ length s.args.edges.now
 enough s = omega (arith, s.requires.within.lent.few, s.requires.within.lent.long)
 
-gather-requires : tie.Need-gather-requires invariant-loop decreases-loop
-gather-requires c κs = (lent_most c.before.before.before.requires.within.lent, refl)
+gather_requires : tie.Need-gather-again-requires invariant_loop decreases_loop
+gather_requires c κs = (lent_most c.requires.within.lent, refl)
 
-loop-holds : tie.Need-loop-init invariant-loop decreases-loop
-loop-holds c =
-    let s = c.before.before.before.before in
-    (omega arith, refl, refl, none_met (opened s) (lent-to s) s.args.arrays (rows_in s.args.rows.now) s.args.next.now s.requires.free, turn_first s.args.values.now s.args.truths.now s.args.edges.now s.args.ways _ (enough s) 0 c.gather.ensures.adjacent)
+loop_holds : tie.Need-loop-first-init invariant_loop decreases_loop
+loop_holds c =
+    let s = c in
+    (omega arith, refl, refl, none_met (opened s.before.before.before.before) (lent_to s.before.before.before.before) s.args.arrays (rows_in s.args.rows.now) s.args.next.now s.requires.free, turn_first s.args.values.now s.args.truths.now s.args.edges.now s.args.ways _ (enough s.before.before.before.before) 0 c.gather-again.ensures.adjacent)
 
-mul-link : tie.Need-overflow-mul-link invariant-loop decreases-loop
-mul-link c = omega (arith, (start c.before).pre.within.sources)
+mul_link : tie.Need-offset_bounds-next-first invariant_loop decreases_loop
+mul_link c = omega (arith, (start c.before).requires.within.sources)
 
-slice-read-link : tie.Need-slice-read-link invariant-loop decreases-loop
-slice-read-link c = omega (arith, c.before.before.loop.invariant.2, (start c.before.before).pre.next_long)
+slice_read_link : tie.Need-bounds-next-first invariant_loop decreases_loop
+slice_read_link c = omega (arith, c.loop-first.invariant.2, (start c.before.before).requires.next_long)
 
-mul-source : tie.Need-overflow-mul-source invariant-loop decreases-loop
-mul-source c = omega (arith, (start c.before.before.before).pre.within.sources, c.before.before.loop-test.true)
+mul_source : tie.Need-offset_bounds-sources-first invariant_loop decreases_loop
+mul_source c = omega (arith, (start c.before.before.before).requires.within.sources, c.loop-first-test.true)
 
-element-copy-out-source : tie.Need-element-copy-out-source invariant-loop decreases-loop
-element-copy-out-source c = omega (arith, (start c.before.before.before).pre.within.sources, c.before.before.loop-test.true)
+element_copy_out_source : tie.Need-bounds-sources-first invariant_loop decreases_loop
+element_copy_out_source c = omega (arith, (start c.before.before.before.before).requires.within.sources, c.loop-first-test.true)
 
-index-value-requires : tie.Need-index-value-requires invariant-loop decreases-loop
-index-value-requires c κs = search rules
+index_value_requires : tie.Need-index_value-x-requires invariant_loop decreases_loop
+index_value_requires c κs = search rules
 
-turn-requires : tie.Need-turn-requires invariant-loop decreases-loop
-turn-requires c κs =
-    let l = c.before.before.before.before.before.before in
-    (lent_most (start l).requires.within.lent, l.before.gather.ensures.apart, l.loop.invariant.4)
+turn_requires : tie.Need-turn-requires invariant_loop decreases_loop
+turn_requires c κs =
+    let l = c in
+    (lent_most (start l.before.before.before.before.before.before.before).requires.within.lent, l.gather-again.ensures.apart, l.loop-first.invariant.4)
 
-mark-value-requires : tie.Need-mark-value-requires invariant-loop decreases-loop
-mark-value-requires c κs =
-    let i = c.before.before.before.before.before.before.before in
-    let l = i.before.before.before in
-    let h = l.loop in
-    let s = start l in
+mark_value_requires : tie.Need-mark_value-marked-requires invariant_loop decreases_loop
+mark_value_requires c κs =
+    let i = c in
+    let l = i in
+    let h = l.loop-first in
+    let s = start l.before.before.before.before.before.before.before.before.before.before.before in
     record {
-      narrow = c.before.before.before.turn.ensures.small;
-      sources = s.pre.within.sources;
-      origin = λ k given. omega (arith, s.pre.within.origin k given, s.pre.within.lent.arrays);
-      first_of = first_of (opened s) (lent-to s) s.args.arrays (rows_in h.rows) h.next h.first h.pairs h.invariant.3 i.before.before.loop-test.true i.if1.true;
-      rows_long = omega (arith, rows_length h.rows, rows_length s.args.rows.now, h.invariant.1, s.pre.rows_long);
-      next_long = omega (arith, h.invariant.2, s.pre.next_long);
+      narrow = c.turn.ensures.small;
+      sources = s.requires.within.sources;
+      origin = λ k given. omega (arith, s.requires.within.origin k given, s.requires.within.lent.arrays);
+      first_of = first_of (opened s) (lent_to s) s.args.arrays (rows_in h.rows) h.next h.first h.pairs h.invariant.3 i.loop-first-test.true i.if-link-eq0.true;
+      rows_long = omega (arith, rows_length h.rows, rows_length s.args.rows.now, h.invariant.1, s.requires.rows_long);
+      next_long = omega (arith, h.invariant.2, s.requires.next_long);
     }
 
-add-pairs : tie.Need-overflow-add-pairs invariant-loop decreases-loop
-add-pairs c =
-    let m = c.before.before.before.before in
-    let v = m.before.before.before.before.before.before in
-    let l = v.before.before.before.before.before in
-    let s = start l in
-    let few = s.pre.within.lent.arrays in
-    let marked = m.mark-value.ensures (opened s) s.args.arrays (fit s) (at_value s v.index-value.ensures m.before.before.before.before.turn.ensures) in
-    omega (arith, met_most (opened s) (lent-to s) s.args.arrays few s.pre.within.sources l.loop.invariant.3, value_most (opened s) (lent-to s) s.args.arrays few s.pre.within.sources marked)
+add_pairs : tie.Need-overflow_add-pairs invariant_loop decreases_loop
+add_pairs c =
+    let m = c in
+    let v = m in
+    let l = v in
+    let s = start l.before.before.before.before.before.before.before.before.before.before.before.before.before.before.before.before in
+    let few = s.requires.within.lent.arrays in
+    let marked = m.mark_value-marked.ensures (opened s) s.args.arrays (fit s) (at_value s v.index_value-x.ensures m.turn.ensures) in
+    omega (arith, met_most (opened s) (lent_to s) s.args.arrays few s.requires.within.sources l.loop-first.invariant.3, value_most (opened s) (lent_to s) s.args.arrays few s.requires.within.sources marked)
 
-add-first : tie.Need-overflow-add-first invariant-loop decreases-loop
-add-first c = omega arith
+add_first : tie.Need-overflow_add-first invariant_loop decreases_loop
+add_first c = omega arith
 
-loop-less : tie.Need-loop-smaller invariant-loop decreases-loop
-loop-less c = omega arith
+loop_less : tie.Need-loop-first-smaller invariant_loop decreases_loop
+loop_less c = omega arith
 
-loop-again : tie.Need-loop-preserved invariant-loop decreases-loop
-loop-again c =
-    let l = c.before.before.before in
-    let h = l.loop in
-    let s = start l in
+loop_again : tie.Need-loop-first-preserved invariant_loop decreases_loop
+loop_again c =
+    let l = c in
+    let h = l.loop-first in
+    let s = start l.before.before.before in
     let n = s.args.arrays in
-    let given = c.before.before.loop-test.true in
+    let given = c.loop-first-test.true in
     ⊎_elim
     (λ w.
-    let rows = rows_in w.8.last.1.1.1.1.1.0 in
-    let next = w.8.last.1.1.1.1.1.1.0 in
-    let marked = w.8.ensures (opened s) n (fit s) (at_value s w.2.ensures w.4.ensures) in (
+    let rows = rows_in w.mark_value-marked.new.rows in
+    let next = w.mark_value-marked.new.next in
+    let marked = w.mark_value-marked.ensures (opened s) n (fit s) (at_value s w.index_value-x.ensures w.turn.ensures) in (
       omega (arith, given),
-      ap length w.13 ∙ w.8.kept.1.1.1.1.1.0 ∙ h.invariant.1,
-      ap length w.14 ∙ w.8.kept.1.1.1.1.1.1.0 ∙ h.invariant.2,
-      met_same (opened s) (lent-to s) n rows next (h.first + 1) (h.pairs + w.8.result)
-          (met_on (opened s) (lent-to s) n (rows_in h.rows) h.next h.first h.pairs h.invariant.3 given w.0.taken rows next w.8.result marked)
-          (rows_in c.if1.rows) c.if1.next c.if1.pairs (ap rows_in w.13) w.14 w.15,
-      turnable-same s w.17 w.16 (turn_next s.args.values.now s.args.truths.now s.args.edges.now s.args.ways _ (enough s) _ w.4.ensures),
+      ap length w.rows-is ∙ w.mark_value-marked.auto.rows ∙ h.invariant.1,
+      ap length w.next-is ∙ w.mark_value-marked.auto.next ∙ h.invariant.2,
+      met_same (opened s) (lent_to s) n rows next (h.first + 1) (h.pairs + w.mark_value-marked.result)
+          (met_on (opened s) (lent_to s) n (rows_in h.rows) h.next h.first h.pairs h.invariant.3 given w.if-link-eq0.true rows next w.mark_value-marked.result marked)
+          (rows_in c.if-link-eq0.rows) c.if-link-eq0.next c.if-link-eq0.pairs (ap rows_in w.rows-is) w.next-is w.pairs-is,
+      turnable_same s w.neighbours-is w.value-is (turn_next s.args.values.now s.args.truths.now s.args.edges.now s.args.ways _ (enough s) _ w.turn.ensures),
     ))
     (λ w. (
       omega (arith, given),
-      ap length w.1 ∙ h.invariant.1,
-      ap length w.2 ∙ h.invariant.2,
-      met_same (opened s) (lent-to s) n (rows_in h.rows) h.next (h.first + 1) h.pairs
-          (met_past (opened s) (lent-to s) n (rows_in h.rows) h.next h.first h.pairs h.invariant.3 given w.0.left)
-          (rows_in c.if1.rows) c.if1.next c.if1.pairs (ap rows_in w.1) w.2 w.3,
-      turnable-same s w.5 w.4 h.invariant.4,
+      ap length w.rows-is ∙ h.invariant.1,
+      ap length w.next-is ∙ h.invariant.2,
+      met_same (opened s) (lent_to s) n (rows_in h.rows) h.next (h.first + 1) h.pairs
+          (met_past (opened s) (lent_to s) n (rows_in h.rows) h.next h.first h.pairs h.invariant.3 given w.if-link-eq0.false)
+          (rows_in c.if-link-eq0.rows) c.if-link-eq0.next c.if-link-eq0.pairs (ap rows_in w.rows-is) w.next-is w.pairs-is,
+      turnable_same s w.neighbours-is w.value-is h.invariant.4,
     ))
-    c.if1.branch
+    c.if-link-eq0.branch-raw
 
-same_length : tie.Need-same-length invariant-loop decreases-loop
-same_length c = c.before.loop.invariant.1
+same_length : tie.Need-shape_of-rows invariant_loop decreases_loop
+same_length c = c.loop-first.invariant.1
 
-same-length-2 : tie.Need-same-length-2 invariant-loop decreases-loop
-same-length-2 c = c.before.loop.invariant.2
+same_length_2 : tie.Need-shape_of-next invariant_loop decreases_loop
+same_length_2 c = c.loop-first.invariant.2
 
-returns : tie.Need-returns invariant-loop decreases-loop
+returns : tie.Need-returns invariant_loop decreases_loop
 returns c =
-    let h = c.before.loop in
+    let h = c.loop-first in
     let s = start c.before in
-    all_met (opened s) (lent-to s) s.args.arrays (rows_in h.rows) h.next h.first h.pairs h.invariant.3 (omega (arith, h.invariant.0))
+    all_met (opened s) (lent_to s) s.args.arrays (rows_in h.rows) h.next h.first h.pairs h.invariant.3 (omega (arith, h.invariant.0))
 
 pub mark_spec : {M : Type 1} → statement M
 mark_spec =
     tie.close
     (tie.spec
-    invariant-loop
-    decreases-loop
-    gather-requires
-    loop-holds
-    mul-link
-    slice-read-link
-    mul-source
-    element-copy-out-source
-    index-value-requires
-    turn-requires
-    mark-value-requires
-    add-pairs
-    add-first
-    loop-less
-    loop-again
+    invariant_loop
+    decreases_loop
+    gather_requires
+    loop_holds
+    mul_link
+    slice_read_link
+    mul_source
+    element_copy_out_source
+    index_value_requires
+    turn_requires
+    mark_value_requires
+    add_pairs
+    add_first
+    loop_less
+    loop_again
     same_length
-    same-length-2
+    same_length_2
     returns)

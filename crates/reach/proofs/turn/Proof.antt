@@ -9,60 +9,60 @@ use Rattle.reach.proofs.Turns.{turn_row, turn_ended}
 use Rattle.reach.proofs.turn.Statement.{statement}
 use Rattle.reach.proofs.turn.Tie as tie
 
-abbrev invariant-loop : tie.invariant-loop
-invariant-loop values truths edges count again before x words₀ k₀ words k = (k ≤ count) × Turning (edges_at values truths edges x) (may_at truths edges) (shut_at values edges before) count k words
+abbrev invariant_loop : tie.invariant-loop-k
+invariant_loop values truths edges count again before x words₀ k₀ words k = (k ≤ count) × Turning (edges_at values truths edges x) (may_at truths edges) (shut_at values edges before) count k words
 
-abbrev decreases-loop : tie.decreases-loop
-decreases-loop values truths edges count again before x words₀ k₀ words k = count - k
+abbrev decreases_loop : tie.decreases-loop-k
+decreases_loop values truths edges count again before x words₀ k₀ words k = count - k
 
-adjacency-requires : tie.Need-adjacency-requires invariant-loop decreases-loop
-adjacency-requires c κs = (c.before.before.before.requires.0, refl)
+adjacency_requires : tie.Need-adjacency-requires invariant_loop decreases_loop
+adjacency_requires c κs = (c.requires.0, refl)
 
-returns : tie.Need-returns invariant-loop decreases-loop
+returns : tie.Need-returns-then-again-ne0 invariant_loop decreases_loop
 returns c = c.adjacency.ensures
 
-loop-holds : tie.Need-loop-init invariant-loop decreases-loop
-loop-holds c = (omega arith, c.before.requires.2 c.before.args.x)
+loop_holds : tie.Need-loop-k-init invariant_loop decreases_loop
+loop_holds c = (omega arith, c.requires.2 c.args.x)
 
-turn-row-requires : tie.Need-turn-row-requires invariant-loop decreases-loop
-turn-row-requires c κs = (c.before.before.before.before.requires.0, c.before.loop-test.true)
+turn_row_requires : tie.Need-turn_row-requires invariant_loop decreases_loop
+turn_row_requires c κs = (c.requires.0, c.loop-k-test.true)
 
-add-k : tie.Need-overflow-add-k invariant-loop decreases-loop
-add-k c = omega (arith, c.before.before.before.before.before.requires.0.few, c.before.before.loop-test.true)
+add_k : tie.Need-overflow_add-k invariant_loop decreases_loop
+add_k c = omega (arith, c.requires.0.few, c.loop-k-test.true)
 
-loop-less : tie.Need-loop-smaller invariant-loop decreases-loop
-loop-less c = omega (arith, c.before.before.loop-test.true)
+loop_less : tie.Need-loop-k-smaller invariant_loop decreases_loop
+loop_less c = omega (arith, c.loop-k-test.true)
 
-loop-again : tie.Need-loop-preserved invariant-loop decreases-loop
-loop-again c =
-    let i = c.before.before in
-    let l = i.before in
-    let e = l.before in
-    let s = e.before in (
-      omega (arith, i.loop-test.true),
-      turn_row s.args.values.now s.args.truths.now s.args.edges.now s.args.count s.args.before s.args.x l.loop.k s.requires.0 i.loop-test.true (s.requires.1 e.if1.false)
-          l.loop.words _ l.loop.invariant.1 c.turn-row.ensures,
+loop_again : tie.Need-loop-k-preserved invariant_loop decreases_loop
+loop_again c =
+    let i = c in
+    let l = i in
+    let e = l in
+    let s = e in (
+      omega (arith, i.loop-k-test.true),
+      turn_row s.args.values.now s.args.truths.now s.args.edges.now s.args.count s.args.before s.args.x l.loop-k.k s.requires.0 i.loop-k-test.true (s.requires.1 e.if-again-ne0.false)
+          l.loop-k.words _ l.loop-k.invariant.1 c.turn_row.ensures,
     )
 
-returns-2 : tie.Need-returns-2 invariant-loop decreases-loop
-returns-2 c =
-    let l = c.before in
-    let s = l.before.before in
-    let ended : l.loop.k ≡ s.args.count = omega (arith, l.loop.invariant.0) in
-    turn_ended s.args.values.now s.args.truths.now s.args.edges.now s.args.count l.loop.words (omega (arith, s.requires.0.few, s.requires.0.long)) s.args.before s.args.x
-    (subst (λ (k : ℕ). Turning (edges_at s.args.values.now s.args.truths.now s.args.edges.now s.args.x) (may_at s.args.truths.now s.args.edges.now) (shut_at s.args.values.now s.args.edges.now s.args.before) s.args.count k l.loop.words) ended l.loop.invariant.1)
+returns_2 : tie.Need-returns invariant_loop decreases_loop
+returns_2 c =
+    let l = c in
+    let s = l in
+    let ended : l.loop-k.k ≡ s.args.count = omega (arith, l.loop-k.invariant.0) in
+    turn_ended s.args.values.now s.args.truths.now s.args.edges.now s.args.count l.loop-k.words (omega (arith, s.requires.0.few, s.requires.0.long)) s.args.before s.args.x
+    (subst (λ (k : ℕ). Turning (edges_at s.args.values.now s.args.truths.now s.args.edges.now s.args.x) (may_at s.args.truths.now s.args.edges.now) (shut_at s.args.values.now s.args.edges.now s.args.before) s.args.count k l.loop-k.words) ended l.loop-k.invariant.1)
 
 pub turn_spec : {M : Type 1} → statement M
 turn_spec =
     tie.close
     (tie.spec
-    invariant-loop
-    decreases-loop
-    adjacency-requires
+    invariant_loop
+    decreases_loop
+    adjacency_requires
     returns
-    loop-holds
-    turn-row-requires
-    add-k
-    loop-less
-    loop-again
-    returns-2)
+    loop_holds
+    turn_row_requires
+    add_k
+    loop_less
+    loop_again
+    returns_2)

@@ -9,70 +9,70 @@ use Rattle.reach.proofs.turn_row.Statement.{statement}
 use Rattle.reach.proofs.turn_row.Tie as tie
 
 -- the function's entry, seen from after the tests
-abbrev start : tie.After-shut-to2 → tie.Start
-start t = t.before.before.before.before.before
+abbrev start : tie.After-shut_to-opened → tie.Start
+start t = t.before.before.before.before.before.before
 
-mul-row : tie.Need-overflow-mul-row
-mul-row c = search rules
+mul_row : tie.Need-offset_bounds-edges-k
+mul_row c = search rules
 
-element-copy-out-row : tie.Need-element-copy-out-row
-element-copy-out-row c = search rules
+element_copy_out_row : tie.Need-bounds-edges-k
+element_copy_out_row c = search rules
 
-left-of-requires : tie.Need-left-of-requires
-left-of-requires c κs = search rules
+left_of_requires : tie.Need-left_of-left-requires
+left_of_requires c κs = search rules
 
-right-of-requires : tie.Need-right-of-requires
-right-of-requires c κs = search rules
+right_of_requires : tie.Need-right_of-right-requires
+right_of_requires c κs = search rules
 
-shut-to-requires : tie.Need-shut-to-requires
-shut-to-requires c κs = search rules
+shut_to_requires : tie.Need-shut_to-shut-requires
+shut_to_requires c κs = search rules
 
-shut-to-requires-2 : tie.Need-shut-to-requires-2
-shut-to-requires-2 c κs = search rules
+shut_to_requires_2 : tie.Need-shut_to-opened-requires
+shut_to_requires_2 c κs = search rules
 
-set-edge-requires : tie.Need-set-edge-requires
-set-edge-requires c κs =
-    let t = c.before.before in
-    let s = start t in
-    rw (t.before.before.before.left-of.ensures, t.before.before.right_of.ensures)
-    (write_ends s.pre.0 s.args.k s.pre.1 (shut_write s.args.values.now [] _ s.args.x (sym t.before.shut-to.ensures ∙ c.before.if1.true)))
+set_edge_requires : tie.Need-set_edge-requires
+set_edge_requires c κs =
+    let t = c in
+    let s = start t.before.before in
+    rw (t.left_of-left.ensures, t.right_of-right.ensures)
+    (write_ends s.requires.0 s.args.k s.requires.1 (shut_write s.args.values.now [] _ s.args.x (sym t.shut_to-shut.ensures ∙ c.if-shut.true)))
 
-returns : tie.Need-returns
+returns : tie.Need-returns-then-shut
 returns c =
-    let h = c.before.before in
-    let t = h.before in
-    rw (sym t.before.shut-to.ensures ∙ h.if1.true, ← t.before.before.before.left-of.ensures, ← t.before.before.right_of.ensures) c.set-edge.ensures
+    let h = c in
+    let t = h in
+    rw (sym t.shut_to-shut.ensures ∙ h.if-shut.true, ← t.left_of-left.ensures, ← t.right_of-right.ensures) c.set_edge.ensures
 
-set-edge-requires-2 : tie.Need-set-edge-requires-2
-set-edge-requires-2 c κs =
-    let t = c.before.before.before in
-    let s = start t in
-    rw (t.before.before.before.left-of.ensures, t.before.before.right_of.ensures)
-    (write_ends s.pre.0 s.args.k s.pre.1 (shut_write s.args.values.now [] _ s.args.before (sym t.shut-to2.ensures ∙ c.before.if2.true)))
+set_edge_requires_2 : tie.Need-set_edge-requires-then-opened
+set_edge_requires_2 c κs =
+    let t = c in
+    let s = start t.before.before.before in
+    rw (t.left_of-left.ensures, t.right_of-right.ensures)
+    (write_ends s.requires.0 s.args.k s.requires.1 (shut_write s.args.values.now [] _ s.args.before (sym t.shut_to-opened.ensures ∙ c.if-opened.true)))
 
-returns-2 : tie.Need-returns-2
-returns-2 c =
-    let h = c.before.before in
-    let t = h.before.before in
-    rw (sym t.before.shut-to.ensures ∙ h.before.if1.false, sym t.shut-to2.ensures ∙ h.if2.true, ← t.before.before.before.left-of.ensures, ← t.before.before.right_of.ensures) c.set-edge2.ensures
+returns_2 : tie.Need-returns-then-opened
+returns_2 c =
+    let h = c in
+    let t = h in
+    rw (sym t.shut_to-shut.ensures ∙ h.if-shut.false, sym t.shut_to-opened.ensures ∙ h.if-opened.true, ← t.left_of-left.ensures, ← t.right_of-right.ensures) c.set_edge-then-opened.ensures
 
-returns-3 : tie.Need-returns-3
-returns-3 c =
-    let t = c.before.before in
-    rw (sym t.before.shut-to.ensures ∙ c.before.if1.false, sym t.shut-to2.ensures ∙ c.if2.false)
+returns_3 : tie.Need-returns-else-opened
+returns_3 c =
+    let t = c in
+    rw (sym t.shut_to-shut.ensures ∙ c.if-shut.false, sym t.shut_to-opened.ensures ∙ c.if-opened.false)
 
-pub turn-row-spec : {M : Type 1} → statement M
-turn-row-spec =
+pub turn_row_spec : {M : Type 1} → statement M
+turn_row_spec =
     tie.close
     (tie.spec
-    mul-row
-    element-copy-out-row
-    left-of-requires
-    right-of-requires
-    shut-to-requires
-    shut-to-requires-2
-    set-edge-requires
+    mul_row
+    element_copy_out_row
+    left_of_requires
+    right_of_requires
+    shut_to_requires
+    shut_to_requires_2
+    set_edge_requires
     returns
-    set-edge-requires-2
-    returns-2
-    returns-3)
+    set_edge_requires_2
+    returns_2
+    returns_3)
