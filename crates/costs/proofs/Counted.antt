@@ -67,7 +67,7 @@ module _ (e : Edges) (n x : ℕ) (ends : Ends e n) {cheap writes : List ℕ} (kn
       subst (λ (k : ℕ). Route cheap writes origin k a) same to
   walk_route {origin} {cost} {c = c} to (step {a} {b} {edge = edge} {walked = walked} first joined rest) =
       let same : cost + step_cost edge.guard + costs step_cost walked ≡ cost + (step_cost edge.guard + costs step_cost walked) = omega arith in
-      subst (λ (k : ℕ). Route cheap writes origin k c) same (walk_route (step_route to edge first joined) rest)
+      subst (λ (k : ℕ). Route cheap writes origin k c) same (walk_route {cost = cost + step_cost edge.guard} (step_route to edge first joined) rest)
 
   walk_from : {a b : ℕ} {walked : List Edge} → Walk (e x) a walked b → Route cheap writes a (costs step_cost walked) b
   walk_from {a} {b} {walked} way =

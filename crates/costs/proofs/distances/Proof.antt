@@ -12,81 +12,81 @@ use Rattle.reach.proofs.Words.{lent_ends, lent_most}
 use Rattle.costs.proofs.distances.Statement.{statement}
 use Rattle.costs.proofs.distances.Tie as tie
 
-abbrev invariant-loop : tie.invariant-loop
-invariant-loop values truths edges count x arrays cheap writes waiting₀ distances₀ table₀ a₀ waiting distances table a =
+abbrev invariant_loop : tie.invariant-loop-a
+invariant_loop values truths edges count x arrays cheap writes waiting₀ distances₀ table₀ a₀ waiting distances table a =
     (a ≤ arrays) × (length waiting ≡ 48) × (length distances ≡ 48) × (length table ≡ 48) × ((j : ℕ) → j < a → DistancesFrom cheap writes j (get_or table j []))
 
-abbrev decreases-loop : tie.decreases-loop
-decreases-loop values truths edges count x arrays cheap writes waiting₀ distances₀ table₀ a₀ waiting distances table a = arrays - a
+abbrev decreases_loop : tie.decreases-loop-a
+decreases_loop values truths edges count x arrays cheap writes waiting₀ distances₀ table₀ a₀ waiting distances table a = arrays - a
 
-sort-edges-requires : tie.Need-sort-edges-requires invariant-loop decreases-loop
-sort-edges-requires c κs = (lent_most c.before.before.requires, refl, refl)
+sort_edges_requires : tie.Need-sort_edges-requires invariant_loop decreases_loop
+sort_edges_requires c κs = (lent_most c.requires, refl, refl)
 
-loop-holds : tie.Need-loop-init invariant-loop decreases-loop
-loop-holds c = (omega arith, refl, refl, refl, λ j below. absurd (omega arith))
+loop_holds : tie.Need-loop-a-init invariant_loop decreases_loop
+loop_holds c = (omega arith, refl, refl, refl, λ j below. absurd (omega arith))
 
 -- the function's entry, seen from the loop's head
-abbrev start : tie.At-loop invariant-loop decreases-loop → tie.Start invariant-loop decreases-loop
+abbrev start : tie.At-loop-a invariant_loop decreases_loop → tie.Start invariant_loop decreases_loop
 start l = l.before.before.before.before
 
-slice-aggregate-distances-from : tie.Need-slice-aggregate-distances-from invariant-loop decreases-loop
-slice-aggregate-distances-from c = sym c.before.before.before.before.loop.invariant.1
+slice_aggregate_distances_from : tie.Need-slice_bounds-distances_from-end invariant_loop decreases_loop
+slice_aggregate_distances_from c = sym c.loop-a.invariant.1
 
-slice-aggregate-distances-from-2 : tie.Need-slice-aggregate-distances-from-2 invariant-loop decreases-loop
-slice-aggregate-distances-from-2 c = sym c.before.before.before.before.before.loop.invariant.2
+slice_aggregate_distances_from_2 : tie.Need-slice_bounds-distances_from-end-in-loop-a invariant_loop decreases_loop
+slice_aggregate_distances_from_2 c = sym c.loop-a.invariant.2
 
-distances-from-requires : tie.Need-distances-from-requires invariant-loop decreases-loop
-distances-from-requires c κs =
-    let l = c.before.before.before.before.before in
-    (omega (arith, (start l).requires.arrays), l.before.sort-edges.ensures.0.small, l.before.sort-edges.ensures.1.small, l.loop.invariant.1, l.loop.invariant.2)
+distances_from_requires : tie.Need-distances_from-requires invariant_loop decreases_loop
+distances_from_requires c κs =
+    let l = c in
+    (omega (arith, (start l.before.before.before.before.before).requires.arrays), l.sort_edges.ensures.0.small, l.sort_edges.ensures.1.small, l.loop-a.invariant.1, l.loop-a.invariant.2)
 
-mul-table : tie.Need-overflow-mul-table invariant-loop decreases-loop
-mul-table c = omega (arith, (start c.before.before.before.before.before.before.before.before).pre.arrays)
+mul_table : tie.Need-offset_bounds-table-a invariant_loop decreases_loop
+mul_table c = omega (arith, (start c.before.before.before.before.before.before.before.before).requires.arrays)
 
-array-set-from-table : tie.Need-array-set-from-table invariant-loop decreases-loop
-array-set-from-table c = omega (arith, (start c.before.before.before.before.before.before.before.before).pre.arrays)
+array_set_from_table : tie.Need-bounds-table-a invariant_loop decreases_loop
+array_set_from_table c = omega (arith, (start c.before.before.before.before.before.before.before.before).requires.arrays)
 
-add_a : tie.Need-overflow-add-a invariant-loop decreases-loop
+add_a : tie.Need-overflow_add-a invariant_loop decreases_loop
 add_a c = omega arith
 
-loop-less : tie.Need-loop-smaller invariant-loop decreases-loop
-loop-less c = omega arith
+loop_less : tie.Need-loop-a-smaller invariant_loop decreases_loop
+loop_less c = omega arith
 
-loop-again : tie.Need-loop-preserved invariant-loop decreases-loop
-loop-again c =
-    let f = c.before.before in
-    let l = f.before.before.before.before.before.before in
-    let h = l.loop in
-    let made = f.distances-from in
-    let inside : h.a < length h.table = omega (arith, (start l).requires.arrays, h.invariant.3) in (
+loop_again : tie.Need-loop-a-preserved invariant_loop decreases_loop
+loop_again c =
+    let f = c in
+    let l = f in
+    let h = l.loop-a in
+    let made = f.distances_from in
+    let inside : h.a < length h.table = omega (arith, (start l.before.before.before.before.before.before.before.before).requires.arrays, h.invariant.3) in (
       omega arith,
-      made.auto.1.1.1.0 ∙ h.invariant.1,
-      made.auto.1.1.1.1.0 ∙ h.invariant.2,
+      made.auto.waiting ∙ h.invariant.1,
+      made.auto.distances ∙ h.invariant.2,
       length-set h.table h.a made.result ∙ h.invariant.3,
       distances_put h.table h.a made.result inside made.ensures h.invariant.4,
     )
 
-returns : tie.Need-returns invariant-loop decreases-loop
+returns : tie.Need-returns invariant_loop decreases_loop
 returns c = λ a b a_in b-in.
-    let l = c.before in
-    let args = (start l).args in
-    distance_is (open_to args.values.now args.truths.now args.edges.now args.count) args.arrays args.x (lent_ends (start l).requires args.values.now args.truths.now) l.before.sort-edges.ensures a b
-    (get_or l.loop.table a []) a_in b-in (l.loop.invariant.4 a (omega arith))
+    let l = c in
+    let args = (start l.before).args in
+    distance_is (open_to args.values.now args.truths.now args.edges.now args.count) args.arrays args.x (lent_ends (start l.before).requires args.values.now args.truths.now) l.sort_edges.ensures a b
+    (get_or l.loop-a.table a []) a_in b-in (l.loop-a.invariant.4 a (omega arith))
 
-pub distances-spec : {M : Type 1} → statement M
-distances-spec =
+pub distances_spec : {M : Type 1} → statement M
+distances_spec =
     tie.close
     (tie.spec
-    invariant-loop
-    decreases-loop
-    sort-edges-requires
-    loop-holds
-    slice-aggregate-distances-from
-    slice-aggregate-distances-from-2
-    distances-from-requires
-    mul-table
-    array-set-from-table
+    invariant_loop
+    decreases_loop
+    sort_edges_requires
+    loop_holds
+    slice_aggregate_distances_from
+    slice_aggregate_distances_from_2
+    distances_from_requires
+    mul_table
+    array_set_from_table
     add_a
-    loop-less
-    loop-again
+    loop_less
+    loop_again
     returns)

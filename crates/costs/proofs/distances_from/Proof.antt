@@ -15,95 +15,95 @@ use Rattle.costs.proofs.Meeting.{Next, next_on, next_waits, Meeting, meet_ahead,
 use Rattle.costs.proofs.distances_from.Statement.{statement}
 use Rattle.costs.proofs.distances_from.Tie as tie
 
-abbrev invariant-loop : tie.invariant-loop
-invariant-loop cheap writes origin waiting₀ distances₀ row₀ seen₀ ahead₀ distance₀ put₀ taken₀ waiting distances row seen ahead distance put taken =
+abbrev invariant_loop : tie.invariant-loop-taken
+invariant_loop cheap writes origin waiting₀ distances₀ row₀ seen₀ ahead₀ distance₀ put₀ taken₀ waiting distances row seen ahead distance put taken =
     Searching cheap writes origin row waiting distances seen ahead distance put taken
 
-abbrev decreases-loop : tie.decreases-loop
-decreases-loop cheap writes origin waiting₀ distances₀ row₀ seen₀ ahead₀ distance₀ put₀ taken₀ waiting distances row seen ahead distance put taken = 96 - (put + taken)
+abbrev decreases_loop : tie.decreases-loop-taken
+decreases_loop cheap writes origin waiting₀ distances₀ row₀ seen₀ ahead₀ distance₀ put₀ taken₀ waiting distances row seen ahead distance put taken = 96 - (put + taken)
 
-shl-seen : tie.Need-overflow-shl-seen invariant-loop decreases-loop
-shl-seen c = omega arith
+shl_seen : tie.Need-overflow_shl-seen invariant_loop decreases_loop
+shl_seen c = omega arith
 
-slice-aggregate-put-level : tie.Need-slice-aggregate-put-level invariant-loop decreases-loop
-slice-aggregate-put-level c = refl
+slice_aggregate_put_level : tie.Need-slice_bounds-put_level-end invariant_loop decreases_loop
+slice_aggregate_put_level c = refl
 
-put-level-requires : tie.Need-put-level-requires invariant-loop decreases-loop
-put-level-requires c κs =
-    let s = c.before.before.before in
+put_level_requires : tie.Need-put_level-begun-requires invariant_loop decreases_loop
+put_level_requires c κs =
+    let s = c in
     rw (one_shifted s.args.origin (omega arith)) (pow-lt s.requires.0, s.requires.1, s.requires.2, refl)
 
-slice-write-waiting : tie.Need-slice-write-waiting invariant-loop decreases-loop
-slice-write-waiting c = let s = c.before.before.before.before.before in omega (arith, s.requires.3)
+slice_write_waiting : tie.Need-bounds-waiting-0 invariant_loop decreases_loop
+slice_write_waiting c = let s = c in omega (arith, s.requires.3)
 
-slice-write-distances : tie.Need-slice-write-distances invariant-loop decreases-loop
-slice-write-distances c = let s = c.before.before.before.before.before in omega (arith, s.requires.4)
+slice_write_distances : tie.Need-bounds-distances-0 invariant_loop decreases_loop
+slice_write_distances c = let s = c in omega (arith, s.requires.4)
 
-loop-holds : tie.Need-loop-init invariant-loop decreases-loop
-loop-holds c =
-    let p = c.before.put-level in
-    let s = c.before.before.before.before.before in
+loop_holds : tie.Need-loop-taken-init invariant_loop decreases_loop
+loop_holds c =
+    let p = c.put_level-begun in
+    let s = c in
     let level = one_shifted s.args.origin (omega arith) in
     rw level
-    (search_begun s.args.cheap.now s.args.writes.now s.args.origin s.requires.0 s.args.waiting.now s.args.distances.now s.requires.3 s.requires.4 p.new.1.1.1.1.0 p.auto.1.1.1.1.0 p.result.cheap p.result.written (rw level at p.ensures.0) (rw level at p.ensures.1) (rw level at p.ensures.2))
+    (search_begun s.args.cheap.now s.args.writes.now s.args.origin s.requires.0 s.args.waiting.now s.args.distances.now s.requires.3 s.requires.4 p.new.row p.auto.row p.result.cheap p.result.written (rw level at p.ensures.0) (rw level at p.ensures.1) (rw level at p.ensures.2))
 
 -- the function's entry, seen from the loop's head
-abbrev start : tie.At-loop invariant-loop decreases-loop → tie.Start invariant-loop decreases-loop
+abbrev start : tie.At-loop-taken invariant_loop decreases_loop → tie.Start invariant_loop decreases_loop
 start l = l.before.before.before.before.before.before
 
 -- a level that waits has its place
-place : (c : tie.In-loop invariant-loop decreases-loop) → c.before.loop.taken < 48
-place c = let h = c.before.loop in omega (arith, h.invariant.many, marks_most h.seen, c.loop-test.true)
+place : (c : tie.In-loop-taken invariant_loop decreases_loop) → c.loop-taken.taken < 48
+place c = let h = c.loop-taken in omega (arith, h.invariant.many, marks_most h.seen, c.loop-taken-test.true)
 
-mul-over : tie.Need-overflow-mul-over invariant-loop decreases-loop
-mul-over c = omega (arith, place c)
+mul_over : tie.Need-offset_bounds-distances-taken invariant_loop decreases_loop
+mul_over c = omega (arith, place c)
 
-slice-read-over : tie.Need-slice-read-over invariant-loop decreases-loop
-slice-read-over c = let h = c.before.before.loop in omega (arith, place c.before, h.invariant.rooms.2)
+slice_read_over : tie.Need-bounds-distances-taken invariant_loop decreases_loop
+slice_read_over c = let h = c.loop-taken in omega (arith, place c.before, h.invariant.rooms.2)
 
-add-next : tie.Need-overflow-add-next invariant-loop decreases-loop
-add-next c = let h = c.before.before.loop in omega (arith, h.invariant.bounded, h.invariant.many, marks_most h.seen, h.invariant.order)
+add_next : tie.Need-overflow_add-next invariant_loop decreases_loop
+add_next c = let h = c.loop-taken in omega (arith, h.invariant.bounded, h.invariant.many, marks_most h.seen, h.invariant.order)
 
-mul-met : tie.Need-overflow-mul-met invariant-loop decreases-loop
-mul-met c = omega (arith, place c.before.before.before)
+mul_met : tie.Need-offset_bounds-waiting-taken invariant_loop decreases_loop
+mul_met c = omega (arith, place c.before.before.before)
 
-slice-read-met : tie.Need-slice-read-met invariant-loop decreases-loop
-slice-read-met c = let i = c.before.before.before.before in omega (arith, place i, i.before.loop.invariant.rooms.1)
+slice_read_met : tie.Need-bounds-waiting-taken invariant_loop decreases_loop
+slice_read_met c = let i = c in omega (arith, place i.before.before.before.before, i.loop-taken.invariant.rooms.1)
 
-add-taken : tie.Need-overflow-add-taken invariant-loop decreases-loop
-add-taken c = omega (arith, place c.before.before.before.before)
+add_taken : tie.Need-overflow_add-taken invariant_loop decreases_loop
+add_taken c = omega (arith, place c.before.before.before.before)
 
 -- the next distance
-chosen : (c : tie.Joined1 invariant-loop decreases-loop)
+chosen : (c : tie.Joined-met-seen invariant_loop decreases_loop)
     → let l = c.before.before.before in
-    let h = l.loop in
-    Next (start l).args.cheap.now (start l).args.writes.now (start l).args.origin h.row h.waiting h.distances h.seen h.ahead h.distance h.put h.taken h.invariant c.if1.next
+    let h = l.loop-taken in
+    Next (start l).args.cheap.now (start l).args.writes.now (start l).args.origin h.row h.waiting h.distances h.seen h.ahead h.distance h.put h.taken h.invariant c.if-met-seen.next
 chosen c =
-    let i = c.before.before in
-    let l = i.before in
-    let h = l.loop in
+    let i = c in
+    let l = i in
+    let h = l.loop-taken in
     ⊎_elim
-    (λ w. rw w.1
-    (next_waits (start l).args.cheap.now (start l).args.writes.now (start l).args.origin h.row h.waiting h.distances h.seen h.ahead h.distance h.put h.taken h.invariant i.loop-test.true w.0.taken))
-    (λ w. rw w.1
-    (next_on (start l).args.cheap.now (start l).args.writes.now (start l).args.origin h.row h.waiting h.distances h.seen h.ahead h.distance h.put h.taken h.invariant i.loop-test.true w.0.left))
-    c.if1.branch
+    (λ w. rw w.next-is
+    (next_waits (start l.before.before.before).args.cheap.now (start l.before.before.before).args.writes.now (start l.before.before.before).args.origin h.row h.waiting h.distances h.seen h.ahead h.distance h.put h.taken h.invariant i.loop-taken-test.true w.if-met-seen.true))
+    (λ w. rw w.next-is
+    (next_on (start l.before.before.before).args.cheap.now (start l.before.before.before).args.writes.now (start l.before.before.before).args.origin h.row h.waiting h.distances h.seen h.ahead h.distance h.put h.taken h.invariant i.loop-taken-test.true w.if-met-seen.false))
+    c.if-met-seen.branch-raw
 
 -- what is met there
-meeting : (c : tie.Joined2 invariant-loop decreases-loop)
+meeting : (c : tie.Joined-next-over invariant_loop decreases_loop)
     → let l = c.before.before.before.before in
-    let h = l.loop in
-    Meeting (start l).args.cheap.now (start l).args.writes.now (start l).args.origin h.row h.waiting h.distances h.seen h.ahead h.distance h.put h.taken h.invariant c.before.if1.next c.if2.met c.if2.taken
+    let h = l.loop-taken in
+    Meeting (start l).args.cheap.now (start l).args.writes.now (start l).args.origin h.row h.waiting h.distances h.seen h.ahead h.distance h.put h.taken h.invariant c.if-met-seen.next c.if-next-over.met c.if-next-over.taken
 meeting c =
-    let i = c.before.before.before in
-    let l = i.before in
-    let h = l.loop in
+    let i = c in
+    let l = i in
+    let h = l.loop-taken in
     ⊎_elim
-    (λ w. rw (w.2, w.3)
-    (meet_both (start l).args.cheap.now (start l).args.writes.now (start l).args.origin h.row h.waiting h.distances h.seen h.ahead h.distance h.put h.taken h.invariant i.loop-test.true c.before.if1.next (chosen c.before) w.0.taken))
-    (λ w. rw (w.1, w.2)
-    (meet_ahead (start l).args.cheap.now (start l).args.writes.now (start l).args.origin h.row h.waiting h.distances h.seen h.ahead h.distance h.put h.taken h.invariant i.loop-test.true c.before.if1.next (chosen c.before) w.0.left))
-    c.if2.branch
+    (λ w. rw (w.taken-is, w.met-is)
+    (meet_both (start l.before.before.before.before).args.cheap.now (start l.before.before.before.before).args.writes.now (start l.before.before.before.before).args.origin h.row h.waiting h.distances h.seen h.ahead h.distance h.put h.taken h.invariant i.loop-taken-test.true c.if-met-seen.next (chosen c.before) w.if-next-over.true))
+    (λ w. rw (w.taken-is, w.met-is)
+    (meet_ahead (start l.before.before.before.before).args.cheap.now (start l.before.before.before.before).args.writes.now (start l.before.before.before.before).args.origin h.row h.waiting h.distances h.seen h.ahead h.distance h.put h.taken h.invariant i.loop-taken-test.true c.if-met-seen.next (chosen c.before) w.if-next-over.false))
+    c.if-next-over.branch-raw
 
 -- nothing is new where the level is empty, and only there
 same_met : (met seen : ℕ) → bit_xor met seen ≡ 0 → met ≡ seen
@@ -113,136 +113,136 @@ same_met met seen empty = go (ℕ_discrete seen met)
     go (yes same) = sym same
     go (no other) = absurd (omega (arith, xor_some met seen other))
 
-some-new : (met seen : ℕ) → (bit_xor met seen ≡ 0 → ⊥) → met ≡ seen → ⊥
-some-new met seen some same = some (ap (λ (m : ℕ). bit_xor m seen) same ∙ xor_self seen)
+some_new : (met seen : ℕ) → (bit_xor met seen ≡ 0 → ⊥) → met ≡ seen → ⊥
+some_new met seen some same = some (ap (λ (m : ℕ). bit_xor m seen) same ∙ xor_self seen)
 
-new : (c : tie.Then3 invariant-loop decreases-loop) → c.before.before.if2.met ≡ c.before.before.before.before.before.before.loop.seen → ⊥
-new c = some-new c.before.before.if2.met c.before.before.before.before.before.before.loop.seen c.if3.true
+new : (c : tie.Then-level-ne0 invariant_loop decreases_loop) → c.if-next-over.met ≡ c.loop-taken.seen → ⊥
+new c = some_new c.if-next-over.met c.loop-taken.seen c.if-level-ne0.true
 
 -- there is room for the level
-room : (c : tie.Then3 invariant-loop decreases-loop) → c.before.before.before.before.before.before.loop.put < 48
+room : (c : tie.Then-level-ne0 invariant_loop decreases_loop) → c.loop-taken.put < 48
 room c =
-    let m = c.before.before in
-    let l = m.before.before.before.before in
-    let h = l.loop in
-    some_room (start l).args.cheap.now (start l).args.writes.now (start l).args.origin h.row h.waiting h.distances h.seen h.ahead h.distance h.put h.taken h.invariant m.before.if1.next m.if2.met m.if2.true (meeting m) (new c)
+    let m = c in
+    let l = m in
+    let h = l.loop-taken in
+    some_room (start l.before.before.before.before.before.before).args.cheap.now (start l.before.before.before.before.before.before).args.writes.now (start l.before.before.before.before.before.before).args.origin h.row h.waiting h.distances h.seen h.ahead h.distance h.put h.taken h.invariant m.if-met-seen.next m.if-next-over.met m.if-next-over.taken (meeting m.before.before) (new c)
 
 -- and its distance is small
-small : (c : tie.Joined2 invariant-loop decreases-loop) → c.before.if1.next < 5000
-small c = let h = c.before.before.before.before.loop in omega (arith, (meeting c).within, h.invariant.bounded, h.invariant.many, marks_most h.seen, h.invariant.order)
+small : (c : tie.Joined-next-over invariant_loop decreases_loop) → c.if-met-seen.next < 5000
+small c = let h = c.loop-taken in omega (arith, (meeting c).within, h.invariant.bounded, h.invariant.many, marks_most h.seen, h.invariant.order)
 
-cast-entry : tie.Need-overflow-cast-entry invariant-loop decreases-loop
-cast-entry c = omega arith
+cast_entry : tie.Need-overflow_cast-entry invariant_loop decreases_loop
+cast_entry c = omega arith
 
-slice-aggregate-put-level-2 : tie.Need-slice-aggregate-put-level-2 invariant-loop decreases-loop
-slice-aggregate-put-level-2 c = sym c.before.before.before.before.before.before.before.before.loop.invariant.rooms.0
+slice_aggregate_put_level_2 : tie.Need-slice_bounds-put_level-end-then-level-ne0 invariant_loop decreases_loop
+slice_aggregate_put_level_2 c = sym c.loop-taken.invariant.rooms.0
 
-put-level-requires-2 : tie.Need-put-level-requires-2 invariant-loop decreases-loop
-put-level-requires-2 c κs =
-    let m = c.before.before.before.before in
-    let l = m.before.before.before.before in
-    let h = l.loop in
-    (xor_lt 48 m.if2.met h.seen (meeting m).small h.invariant.seen_small, (start l).requires.1, (start l).requires.2, h.invariant.rooms.0)
+put_level_requires_2 : tie.Need-put_level-beyond-requires invariant_loop decreases_loop
+put_level_requires_2 c κs =
+    let m = c in
+    let l = m in
+    let h = l.loop-taken in
+    (xor_lt 48 m.if-next-over.met h.seen (meeting m.before.before.before.before).small h.invariant.seen_small, (start l.before.before.before.before.before.before.before.before).requires.1, (start l.before.before.before.before.before.before.before.before).requires.2, h.invariant.rooms.0)
 
-mul-waiting : tie.Need-overflow-mul-waiting invariant-loop decreases-loop
-mul-waiting c = omega (arith, room c.before.before.before.before)
+mul_waiting : tie.Need-offset_bounds-waiting-put invariant_loop decreases_loop
+mul_waiting c = omega (arith, room c.before.before.before.before)
 
-slice-write-waiting-2 : tie.Need-slice-write-waiting-2 invariant-loop decreases-loop
-slice-write-waiting-2 c =
-    let t = c.before.before.before.before in
-    omega (arith, room t, t.before.before.before.before.before.before.loop.invariant.rooms.1)
+slice_write_waiting_2 : tie.Need-bounds-waiting-put invariant_loop decreases_loop
+slice_write_waiting_2 c =
+    let t = c in
+    omega (arith, room t.before.before.before.before, t.loop-taken.invariant.rooms.1)
 
-add-distances : tie.Need-overflow-add-distances invariant-loop decreases-loop
-add-distances c = omega (arith, small c.before.before.before.before.before.before)
+add_distances : tie.Need-overflow_add-distances invariant_loop decreases_loop
+add_distances c = omega (arith, small c.before.before.before.before.before.before)
 
-mul-distances : tie.Need-overflow-mul-distances invariant-loop decreases-loop
-mul-distances c = omega (arith, room c.before.before.before.before)
+mul_distances : tie.Need-offset_bounds-distances-put invariant_loop decreases_loop
+mul_distances c = omega (arith, room c.before.before.before.before)
 
-slice-write-distances-2 : tie.Need-slice-write-distances-2 invariant-loop decreases-loop
-slice-write-distances-2 c =
-    let t = c.before.before.before.before in
-    omega (arith, room t, t.before.before.before.before.before.before.loop.invariant.rooms.2)
+slice_write_distances_2 : tie.Need-bounds-distances-put invariant_loop decreases_loop
+slice_write_distances_2 c =
+    let t = c in
+    omega (arith, room t.before.before.before.before, t.loop-taken.invariant.rooms.2)
 
-add-put : tie.Need-overflow-add-put invariant-loop decreases-loop
-add-put c = omega (arith, room c.before.before.before.before)
+add_put : tie.Need-overflow_add-put invariant_loop decreases_loop
+add_put c = omega (arith, room c.before.before.before.before)
 
-loop-less : tie.Need-loop-smaller invariant-loop decreases-loop
-loop-less c =
-    let t = c.before.before.before.before in
-    let m = t.before.before in
-    let h = m.before.before.before.before.loop in
-    omega (arith, room t, (meeting m).from, (meeting m).order)
+loop_less : tie.Need-loop-taken-smaller-then-level-ne0 invariant_loop decreases_loop
+loop_less c =
+    let t = c in
+    let m = t in
+    let h = m.loop-taken in
+    omega (arith, room t.before.before.before.before, (meeting m.before.before.before.before.before.before).from, (meeting m.before.before.before.before.before.before).order)
 
-loop-again : tie.Need-loop-preserved invariant-loop decreases-loop
-loop-again c =
-    let t = c.before.before.before.before in
-    let m = t.before.before in
-    let l = m.before.before.before.before in
-    let h = l.loop in
-    let p = c.before.put-level2 in
-    met_level (start l).args.cheap.now (start l).args.writes.now (start l).args.origin h.row h.waiting h.distances h.seen h.ahead h.distance h.put h.taken h.invariant m.before.if1.next m.if2.met m.if2.true (meeting m) (new t)
-    p.new.1.1.1.1.0 p.result.cheap p.result.written (p.auto.1.1.1.1.0 ∙ h.invariant.rooms.0) p.ensures.0 p.ensures.1 p.ensures.2
+loop_again : tie.Need-loop-taken-preserved-then-level-ne0 invariant_loop decreases_loop
+loop_again c =
+    let t = c in
+    let m = t in
+    let l = m in
+    let h = l.loop-taken in
+    let p = c.put_level-beyond in
+    met_level (start l.before.before.before.before.before.before.before.before.before.before).args.cheap.now (start l.before.before.before.before.before.before.before.before.before.before).args.writes.now (start l.before.before.before.before.before.before.before.before.before.before).args.origin h.row h.waiting h.distances h.seen h.ahead h.distance h.put h.taken h.invariant m.if-met-seen.next m.if-next-over.met m.if-next-over.taken (meeting m.before.before.before.before.before.before) (new t.before.before.before.before)
+    p.new.row p.result.cheap p.result.written (p.auto.row ∙ h.invariant.rooms.0) p.ensures.0 p.ensures.1 p.ensures.2
 
 -- nothing is new
-nothing : (c : tie.Else3 invariant-loop decreases-loop) → c.before.before.if2.met ≡ c.before.before.before.before.before.before.loop.seen
-nothing c = same_met c.before.before.if2.met c.before.before.before.before.before.before.loop.seen c.if3.false
+nothing : (c : tie.Else-level-ne0 invariant_loop decreases_loop) → c.if-next-over.met ≡ c.loop-taken.seen
+nothing c = same_met c.if-next-over.met c.loop-taken.seen c.if-level-ne0.false
 
-loop-less-2 : tie.Need-loop-smaller-2 invariant-loop decreases-loop
-loop-less-2 c =
-    let m = c.before.before in
-    let h = m.before.before.before.before.loop in
-    omega (arith, (meeting m).moves (nothing c), m.before.before.before.loop-test.true, h.invariant.many, marks_most h.seen)
+loop_less_2 : tie.Need-loop-taken-smaller invariant_loop decreases_loop
+loop_less_2 c =
+    let m = c in
+    let h = m.loop-taken in
+    omega (arith, (meeting m.before.before).moves (nothing c), m.loop-taken-test.true, h.invariant.many, marks_most h.seen)
 
-loop-again-2 : tie.Need-loop-preserved-2 invariant-loop decreases-loop
-loop-again-2 c =
-    let m = c.before.before in
-    let l = m.before.before.before.before in
-    let h = l.loop in
-    met_nothing (start l).args.cheap.now (start l).args.writes.now (start l).args.origin h.row h.waiting h.distances h.seen h.ahead h.distance h.put h.taken h.invariant m.before.if1.next m.if2.met m.if2.true (meeting m) (nothing c)
+loop_again_2 : tie.Need-loop-taken-preserved invariant_loop decreases_loop
+loop_again_2 c =
+    let m = c in
+    let l = m in
+    let h = l.loop-taken in
+    met_nothing (start l.before.before.before.before.before.before).args.cheap.now (start l.before.before.before.before.before.before).args.writes.now (start l.before.before.before.before.before.before).args.origin h.row h.waiting h.distances h.seen h.ahead h.distance h.put h.taken h.invariant m.if-met-seen.next m.if-next-over.met m.if-next-over.taken (meeting m.before.before) (nothing c)
 
-same_length : tie.Need-same-length invariant-loop decreases-loop
-same_length c = c.before.loop.invariant.rooms.1 ∙ sym (start c.before).pre.3
+same_length : tie.Need-shape_of-waiting invariant_loop decreases_loop
+same_length c = c.loop-taken.invariant.rooms.1 ∙ sym (start c.before).requires.3
 
-same-length-2 : tie.Need-same-length-2 invariant-loop decreases-loop
-same-length-2 c = c.before.loop.invariant.rooms.2 ∙ sym (start c.before).pre.4
+same_length_2 : tie.Need-shape_of-distances invariant_loop decreases_loop
+same_length_2 c = c.loop-taken.invariant.rooms.2 ∙ sym (start c.before).requires.4
 
-returns : tie.Need-returns invariant-loop decreases-loop
+returns : tie.Need-returns invariant_loop decreases_loop
 returns c =
-    let l = c.before in
-    let h = l.loop in
-    search_ended (start l).args.cheap.now (start l).args.writes.now (start l).args.origin h.row h.waiting h.distances h.seen h.ahead h.distance h.put h.taken h.invariant (omega (arith, h.invariant.order, c.loop-test.false))
+    let l = c in
+    let h = l.loop-taken in
+    search_ended (start l.before).args.cheap.now (start l.before).args.writes.now (start l.before).args.origin h.row h.waiting h.distances h.seen h.ahead h.distance h.put h.taken h.invariant (omega (arith, h.invariant.order, c.loop-taken-test.false))
 
-pub distances-from-spec : {M : Type 1} → statement M
-distances-from-spec =
+pub distances_from_spec : {M : Type 1} → statement M
+distances_from_spec =
     tie.close
     (tie.spec
-    invariant-loop
-    decreases-loop
-    shl-seen
-    slice-aggregate-put-level
-    put-level-requires
-    slice-write-waiting
-    slice-write-distances
-    loop-holds
-    mul-over
-    slice-read-over
-    add-next
-    mul-met
-    slice-read-met
-    add-taken
-    cast-entry
-    slice-aggregate-put-level-2
-    put-level-requires-2
-    mul-waiting
-    slice-write-waiting-2
-    add-distances
-    mul-distances
-    slice-write-distances-2
-    add-put
-    loop-less
-    loop-again
-    loop-less-2
-    loop-again-2
+    invariant_loop
+    decreases_loop
+    shl_seen
+    slice_aggregate_put_level
+    put_level_requires
+    slice_write_waiting
+    slice_write_distances
+    loop_holds
+    mul_over
+    slice_read_over
+    add_next
+    mul_met
+    slice_read_met
+    add_taken
+    cast_entry
+    slice_aggregate_put_level_2
+    put_level_requires_2
+    mul_waiting
+    slice_write_waiting_2
+    add_distances
+    mul_distances
+    slice_write_distances_2
+    add_put
+    loop_less
+    loop_again
+    loop_less_2
+    loop_again_2
     same_length
-    same-length-2
+    same_length_2
     returns)
