@@ -10,53 +10,53 @@ use Rattle.lemma.proofs.Left.{compares, others_stay}
 use Rattle.lemma.proofs.fixed.left_out.Statement.{statement}
 use Rattle.lemma.proofs.fixed.left_out.Tie as tie
 
-tag-of-requires : tie.Need-tag-of-requires
-tag-of-requires c κs = search rules
+tag_of_requires : tie.Need-tag_of-requires
+tag_of_requires c κs = search rules
 
-left-of-requires : tie.Need-left-of-requires
-left-of-requires c κs = search rules
+left_of_requires : tie.Need-left_of-requires
+left_of_requires c κs = search rules
 
-right-of-requires : tie.Need-right-of-requires
-right-of-requires c κs = search rules
+right_of_requires : tie.Need-right_of-requires
+right_of_requires c κs = search rules
 
-both-fixed-requires : tie.Need-both-fixed-requires
-both-fixed-requires c κs = (omega (arith, c.before.left-of.ensures), omega (arith, c.right_of.ensures))
+both_fixed_requires : tie.Need-both_fixed-requires
+both_fixed_requires c κs = (omega (arith, c.left_of.ensures), omega (arith, c.right_of.ensures))
 
-returns : tie.Need-returns
+returns : tie.Need-returns-in-33
 returns c =
-    let compared = c.before.before.before in
-    let tag = compared.before.before.tag_of in
-    let args = compared.before.before.before.args in
+    let compared = c in
+    let tag = compared.tag_of in
+    let args = compared.args in
     let fixed = fixed_in args.reads.now in
     let row = args.literal in
-    c.both-fixed.ensures
-    ∙ ap₂ (λ (i j : ℕ). fixed i && fixed j) c.before.before.left-of.ensures c.before.right_of.ensures
-    ∙ sym (compares fixed (tag_in row) (left_in row) (right_in row) (omega (arith, tag.ensures, compared.before.if1.false)) (omega (arith, tag.ensures, compared.if2.true)))
+    c.both_fixed.ensures
+    ∙ ap₂ (λ (i j : ℕ). fixed i && fixed j) c.left_of.ensures c.right_of.ensures
+    ∙ sym (compares fixed (tag_in row) (left_in row) (right_in row) (omega (arith, tag.ensures, compared.in-33.if-tag_of-lt33-own.false)) (omega (arith, tag.ensures, compared.in-33.if-this-lt35-own.true)))
 
-returns-2 : tie.Need-returns-2
-returns-2 c =
-    let args = c.before.before.args in
+returns_2 : tie.Need-returns-in_default
+returns_2 c =
+    let args = c.args in
     sym
     (others_stay (fixed_in args.reads.now) (tag_in args.literal) (left_in args.literal) (right_in args.literal)
-    (λ e. omega (arith, c.before.tag_of.ensures, c.if1.true))
-    (λ e. omega (arith, c.before.tag_of.ensures, c.if1.true)))
+    (λ e. omega (arith, c.tag_of.ensures, c.in_default.if-tag_of-lt33-own.true))
+    (λ e. omega (arith, c.tag_of.ensures, c.in_default.if-tag_of-lt33-own.true)))
 
-returns-3 : tie.Need-returns-3
-returns-3 c =
-    let args = c.before.before.before.args in
+returns_3 : tie.Need-returns-in_default-2
+returns_3 c =
+    let args = c.args in
     sym
     (others_stay (fixed_in args.reads.now) (tag_in args.literal) (left_in args.literal) (right_in args.literal)
-    (λ e. omega (arith, c.before.before.tag_of.ensures, c.if2.false))
-    (λ e. omega (arith, c.before.before.tag_of.ensures, c.if2.false)))
+    (λ e. omega (arith, c.tag_of.ensures, c.in_default.if-this-lt35-own.false))
+    (λ e. omega (arith, c.tag_of.ensures, c.in_default.if-this-lt35-own.false)))
 
-pub left-out-spec : {M : Type 1} → statement M
-left-out-spec =
+pub left_out_spec : {M : Type 1} → statement M
+left_out_spec =
     tie.close
     (tie.spec
-    tag-of-requires
-    left-of-requires
-    right-of-requires
-    both-fixed-requires
+    tag_of_requires
+    left_of_requires
+    right_of_requires
+    both_fixed_requires
     returns
-    returns-2
-    returns-3)
+    returns_2
+    returns_3)

@@ -10,111 +10,111 @@ use Rattle.lemma.proofs.Ways.{way_open, way_other}
 use Rattle.lemma.proofs.paths.least_path.Statement.{statement}
 use Rattle.lemma.proofs.paths.least_path.Tie as tie
 
-abbrev invariant-loop : tie.invariant-loop
-invariant-loop values truths edges ways distances x arrays from goal path₀ steps₀ a₀ path steps a = Walking (table_of values truths edges ways) x arrays goal from a steps path
+abbrev invariant_loop : tie.invariant-loop-a
+invariant_loop values truths edges ways distances x arrays from goal path₀ steps₀ a₀ path steps a = Walking (table_of values truths edges ways) x arrays goal from a steps path
 
-abbrev decreases-loop : tie.decreases-loop
-decreases-loop values truths edges ways distances x arrays from goal path₀ steps₀ a₀ path steps a = arrays - steps
+abbrev decreases_loop : tie.decreases-loop-a
+decreases_loop values truths edges ways distances x arrays from goal path₀ steps₀ a₀ path steps a = arrays - steps
 
-abbrev lent-to : tie.Start invariant-loop decreases-loop → EdgeTable
-lent-to s = table_of s.args.values.now s.args.truths.now s.args.edges.now s.args.ways
+abbrev lent_to : tie.Start invariant_loop decreases_loop → EdgeTable
+lent_to s = table_of s.args.values.now s.args.truths.now s.args.edges.now s.args.ways
 
-loop-holds : tie.Need-loop-init invariant-loop decreases-loop
-loop-holds c =
+loop_holds : tie.Need-loop-a-init invariant_loop decreases_loop
+loop_holds c =
     let args = c.args in
-    walking_start (lent-to c) args.x args.arrays args.goal c.requires.0.ends args.from args.path.now c.requires.1 c.requires.0.reached
+    walking_start (lent_to c) args.x args.arrays args.goal c.requires.0.ends args.from args.path.now c.requires.1 c.requires.0.reached
 
-nearer-edge-requires : tie.Need-nearer-edge-requires invariant-loop decreases-loop
-nearer-edge-requires c κs =
-    let at = c.before in
-    let s = at.before in
+nearer_edge_requires : tie.Need-nearer_edge-k-requires invariant_loop decreases_loop
+nearer_edge_requires c κs =
+    let at = c in
+    let s = at in
     let args = s.args in
     let pre = s.requires.0 in (
-      ends_most (lent-to s) args.x args.arrays pre.ends,
-      omega (arith, pre.ends.arrays, walking_in (lent-to s) args.x args.arrays args.goal at.loop.invariant),
+      ends_most (lent_to s.before.before) args.x args.arrays pre.ends,
+      omega (arith, pre.ends.arrays, walking_in (lent_to s.before.before) args.x args.arrays args.goal at.loop-a.invariant),
       omega (arith, pre.ends.arrays, pre.goal_in),
     )
 
 -- the edge that is taken stands in the table, and is open
-numbered : (c : tie.After-nearer-edge invariant-loop decreases-loop) → c.nearer-edge.result < c.before.before.before.args.ways
+numbered : (c : tie.After-nearer_edge-k invariant_loop decreases_loop) → c.nearer_edge-k.result < c.args.ways
 numbered c =
-    let at = c.before.before in
-    let s = at.before in
+    let at = c in
+    let s = at in
     let args = s.args in
     let pre = s.requires.0 in
-    rw c.nearer-edge.ensures
-    (chosen_in (lent-to s) args.x args.arrays args.goal pre.ends args.distances.now pre.distances_are pre.goal_in args.from at.loop.a at.loop.steps at.loop.path pre.ends.arrays c.before.loop-test.true at.loop.invariant)
+    rw c.nearer_edge-k.ensures
+    (chosen_in (lent_to s.before.before.before) args.x args.arrays args.goal pre.ends args.distances.now pre.distances_are pre.goal_in args.from at.loop-a.a at.loop-a.steps at.loop-a.path pre.ends.arrays c.loop-a-test.true at.loop-a.invariant)
 
-taken-open : (c : tie.After-nearer-edge invariant-loop decreases-loop) → open_at (lent-to c.before.before.before) c.before.before.before.args.x c.nearer-edge.result ≡ true
-taken-open c =
-    let at = c.before.before in
-    let s = at.before in
+taken_open : (c : tie.After-nearer_edge-k invariant_loop decreases_loop) → open_at (lent_to c.before.before.before) c.args.x c.nearer_edge-k.result ≡ true
+taken_open c =
+    let at = c in
+    let s = at in
     let args = s.args in
     let pre = s.requires.0 in
-    rw c.nearer-edge.ensures
-    (chosen_open (lent-to s) args.x args.arrays args.goal pre.ends args.distances.now pre.distances_are pre.goal_in args.from at.loop.a at.loop.steps at.loop.path pre.ends.arrays c.before.loop-test.true at.loop.invariant)
+    rw c.nearer_edge-k.ensures
+    (chosen_open (lent_to s.before.before.before) args.x args.arrays args.goal pre.ends args.distances.now pre.distances_are pre.goal_in args.from at.loop-a.a at.loop-a.steps at.loop-a.path pre.ends.arrays c.loop-a-test.true at.loop-a.invariant)
 
-cast-path : tie.Need-overflow-cast-path invariant-loop decreases-loop
-cast-path c = omega (arith, numbered c, c.before.before.before.requires.0.ends.edges)
+cast_path : tie.Need-overflow_cast-path invariant_loop decreases_loop
+cast_path c = omega (arith, numbered c, c.requires.0.ends.edges)
 
-element-write-path : tie.Need-element-write-path invariant-loop decreases-loop
-element-write-path c = omega (arith, c.before.before.before.requires.0.ends.arrays, c.before.before.loop.invariant.short)
+element_write_path : tie.Need-bounds-path-steps invariant_loop decreases_loop
+element_write_path c = omega (arith, c.requires.0.ends.arrays, c.loop-a.invariant.short)
 
-add-steps : tie.Need-overflow-add-steps invariant-loop decreases-loop
-add-steps c = omega (arith, c.before.before.before.requires.0.ends.arrays, c.before.before.loop.invariant.short)
+add_steps : tie.Need-overflow_add-steps invariant_loop decreases_loop
+add_steps c = omega (arith, c.requires.0.ends.arrays, c.loop-a.invariant.short)
 
-mul-row : tie.Need-overflow-mul-row invariant-loop decreases-loop
-mul-row c = omega (arith, numbered c, c.before.before.before.requires.0.ends.edges)
+mul_row : tie.Need-offset_bounds-edges-k invariant_loop decreases_loop
+mul_row c = omega (arith, numbered c.before, c.requires.0.ends.edges)
 
-element-copy-out-row : tie.Need-element-copy-out-row invariant-loop decreases-loop
-element-copy-out-row c = omega (arith, numbered c, c.before.before.before.requires.0.ends.edges)
+element_copy_out_row : tie.Need-bounds-edges-k invariant_loop decreases_loop
+element_copy_out_row c = omega (arith, numbered c.before.before, c.requires.0.ends.edges)
 
-open-way-requires : tie.Need-open-way-requires invariant-loop decreases-loop
-open-way-requires c κs = tt
+open_way_requires : tie.Need-open_way-way-requires invariant_loop decreases_loop
+open_way_requires c κs = tt
 
-other-end-requires : tie.Need-other-end-requires invariant-loop decreases-loop
-other-end-requires c κs = tt
+other_end_requires : tie.Need-other_end-a-requires invariant_loop decreases_loop
+other_end_requires c κs = tt
 
-loop-less : tie.Need-loop-smaller invariant-loop decreases-loop
-loop-less c = omega (arith, c.before.before.before.before.before.loop.invariant.short)
+loop_less : tie.Need-loop-a-smaller invariant_loop decreases_loop
+loop_less c = omega (arith, c.loop-a.invariant.short)
 
-loop-again : tie.Need-loop-preserved invariant-loop decreases-loop
-loop-again c =
-    let chosen = c.before.before.before in
-    let at = c.before.before.before.before.before in
-    let s = at.before in
+loop_again : tie.Need-loop-a-preserved invariant_loop decreases_loop
+loop_again c =
+    let chosen = c in
+    let at = c in
+    let s = at in
     let args = s.args in
     let pre = s.requires.0 in
-    let k = chosen.nearer-edge.result in
-    let way = c.before.open-way.result in
-    let is = c.before.open-way.ensures in
-    let other = way_other (lent-to s) args.x k way is (way_open (lent-to s) args.x k way is ∙ taken-open chosen) at.loop.a in
-    rw (c.other-end.ensures ∙ other, chosen.nearer-edge.ensures)
-    (walking_on (lent-to s) args.x args.arrays args.goal pre.ends args.distances.now pre.distances_are pre.goal_in args.from at.loop.a at.loop.steps at.loop.path pre.ends.arrays chosen.before.loop-test.true at.loop.invariant)
+    let k = chosen.nearer_edge-k.result in
+    let way = c.open_way-way.result in
+    let is = c.open_way-way.ensures in
+    let other = way_other (lent_to s.before.before.before.before.before.before.before.before) args.x k way is (way_open (lent_to s.before.before.before.before.before.before.before.before) args.x k way is ∙ taken_open chosen.before.before.before.before.before) at.loop-a.a in
+    rw (c.other_end-a.ensures ∙ other, chosen.nearer_edge-k.ensures)
+    (walking_on (lent_to s.before.before.before.before.before.before.before.before) args.x args.arrays args.goal pre.ends args.distances.now pre.distances_are pre.goal_in args.from at.loop-a.a at.loop-a.steps at.loop-a.path pre.ends.arrays chosen.loop-a-test.true at.loop-a.invariant)
 
-returns : tie.Need-returns invariant-loop decreases-loop
+returns : tie.Need-returns invariant_loop decreases_loop
 returns c =
-    let at = c.before in
-    let s = at.before in
+    let at = c in
+    let s = at in
     let args = s.args in
     let pre = s.requires.0 in
-    walking_end (lent-to s) args.x args.arrays args.goal pre.ends args.from at.loop.a at.loop.steps at.loop.path c.loop-test.false at.loop.invariant
+    walking_end (lent_to s.before.before) args.x args.arrays args.goal pre.ends args.from at.loop-a.a at.loop-a.steps at.loop-a.path c.loop-a-test.false at.loop-a.invariant
 
-pub least-path-spec : {M : Type 1} → statement M
-least-path-spec =
+pub least_path_spec : {M : Type 1} → statement M
+least_path_spec =
     tie.close
     (tie.spec
-    invariant-loop
-    decreases-loop
-    loop-holds
-    nearer-edge-requires
-    cast-path
-    element-write-path
-    add-steps
-    mul-row
-    element-copy-out-row
-    open-way-requires
-    other-end-requires
-    loop-less
-    loop-again
+    invariant_loop
+    decreases_loop
+    loop_holds
+    nearer_edge_requires
+    cast_path
+    element_write_path
+    add_steps
+    mul_row
+    element_copy_out_row
+    open_way_requires
+    other_end_requires
+    loop_less
+    loop_again
     returns)

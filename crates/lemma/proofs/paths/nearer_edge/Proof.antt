@@ -9,73 +9,73 @@ use Rattle.lemma.proofs.Ranges.{first_from, first_all, first_hit, first_miss, fi
 use Rattle.lemma.proofs.paths.nearer_edge.Statement.{statement}
 use Rattle.lemma.proofs.paths.nearer_edge.Tie as tie
 
-abbrev invariant-loop : tie.invariant-loop
-invariant-loop values truths edges count distances x a goal k₀ k =
+abbrev invariant_loop : tie.invariant-loop-k
+invariant_loop values truths edges count distances x a goal k₀ k =
     let all = table_of values truths edges count in
     (k ≤ count) × (nearer_edge all distances x a goal ≡ first_from (nearer_by all distances x a goal) count k)
 
-abbrev decreases-loop : tie.decreases-loop
-decreases-loop values truths edges count distances x a goal k₀ k = count - k
+abbrev decreases_loop : tie.decreases-loop-k
+decreases_loop values truths edges count distances x a goal k₀ k = count - k
 
 -- the edges that are lent, and the test of each
-abbrev lent-to : tie.Start invariant-loop decreases-loop → EdgeTable
-lent-to s = table_of s.args.values.now s.args.truths.now s.args.edges.now s.args.count
+abbrev lent_to : tie.Start invariant_loop decreases_loop → EdgeTable
+lent_to s = table_of s.args.values.now s.args.truths.now s.args.edges.now s.args.count
 
-abbrev nearer : tie.Start invariant-loop decreases-loop → ℕ → Bool
-nearer s = nearer_by (lent-to s) s.args.distances.now s.args.x s.args.a s.args.goal
+abbrev nearer : tie.Start invariant_loop decreases_loop → ℕ → Bool
+nearer s = nearer_by (lent_to s) s.args.distances.now s.args.x s.args.a s.args.goal
 
-loop-holds : tie.Need-loop-init invariant-loop decreases-loop
+loop_holds : tie.Need-loop-k-init invariant_loop decreases_loop
 unfolding nearer_edge
-loop-holds c = (omega arith, first_all (nearer c) c.args.count)
+loop_holds c = (omega arith, first_all (nearer c) c.args.count)
 
-mul-row : tie.Need-overflow-mul-row invariant-loop decreases-loop
-mul-row c = omega (arith, c.before.before.requires.0.edges)
+mul_row : tie.Need-offset_bounds-edges-k invariant_loop decreases_loop
+mul_row c = omega (arith, c.requires.0.edges)
 
-element-copy-out-row : tie.Need-element-copy-out-row invariant-loop decreases-loop
-element-copy-out-row c = omega (arith, c.before.before.requires.0.edges)
+element_copy_out_row : tie.Need-bounds-edges-k invariant_loop decreases_loop
+element_copy_out_row c = omega (arith, c.requires.0.edges)
 
-row-leads-requires : tie.Need-row-leads-requires invariant-loop decreases-loop
-row-leads-requires c κs =
-    let l = c.before.before in
-    let e = l.before in
-    let k = l.loop.k in
+row_leads_requires : tie.Need-row_leads-requires invariant_loop decreases_loop
+row_leads_requires c κs =
+    let l = c in
+    let e = l in
+    let k = l.loop-k.k in
     let inside : k < e.args.count = omega arith in
     ((e.requires.0.left k inside, e.requires.0.right k inside), e.requires.1, e.requires.2)
 
-returns : tie.Need-returns invariant-loop decreases-loop
+returns : tie.Need-returns-then-row_leads invariant_loop decreases_loop
 returns c =
-    let at = c.before.before.before.before in
-    sym (at.loop.invariant.1 ∙ first_hit (nearer at.before) at.before.args.count at.loop.k (omega arith) (sym c.before.row-leads.ensures ∙ c.if1.true))
+    let at = c in
+    sym (at.loop-k.invariant.1 ∙ first_hit (nearer at.before.before.before.before.before.before) at.args.count at.loop-k.k (omega arith) (sym c.row_leads.ensures ∙ c.if-row_leads.true))
 
-add-k : tie.Need-overflow-add-k invariant-loop decreases-loop
-add-k c = omega (arith, c.before.before.before.before.before.requires.0.edges)
+add_k : tie.Need-overflow_add-k invariant_loop decreases_loop
+add_k c = omega (arith, c.requires.0.edges)
 
-loop-less : tie.Need-loop-smaller invariant-loop decreases-loop
-loop-less c = omega arith
+loop_less : tie.Need-loop-k-smaller invariant_loop decreases_loop
+loop_less c = omega arith
 
-loop-again : tie.Need-loop-preserved invariant-loop decreases-loop
-loop-again c =
-    let at = c.before.before.before.before in
-    (omega arith, at.loop.invariant.1 ∙ first_miss (nearer at.before) at.before.args.count at.loop.k (omega arith) (sym c.before.row-leads.ensures ∙ c.if1.false))
+loop_again : tie.Need-loop-k-preserved invariant_loop decreases_loop
+loop_again c =
+    let at = c in
+    (omega arith, at.loop-k.invariant.1 ∙ first_miss (nearer at.before.before.before.before.before.before) at.args.count at.loop-k.k (omega arith) (sym c.row_leads.ensures ∙ c.if-row_leads.false))
 
-returns-2 : tie.Need-returns-2 invariant-loop decreases-loop
-returns-2 c =
-    let at = c.before in
-    let here = at.loop.invariant.1 ∙ first_end (nearer at.before) at.before.args.count at.loop.k (omega arith) in
+returns_2 : tie.Need-returns invariant_loop decreases_loop
+returns_2 c =
+    let at = c in
+    let here = at.loop-k.invariant.1 ∙ first_end (nearer at.before.before) at.args.count at.loop-k.k (omega arith) in
     omega (arith, here)
 
-pub nearer-edge-spec : {M : Type 1} → statement M
-nearer-edge-spec =
+pub nearer_edge_spec : {M : Type 1} → statement M
+nearer_edge_spec =
     tie.close
     (tie.spec
-    invariant-loop
-    decreases-loop
-    loop-holds
-    mul-row
-    element-copy-out-row
-    row-leads-requires
+    invariant_loop
+    decreases_loop
+    loop_holds
+    mul_row
+    element_copy_out_row
+    row_leads_requires
     returns
-    add-k
-    loop-less
-    loop-again
-    returns-2)
+    add_k
+    loop_less
+    loop_again
+    returns_2)

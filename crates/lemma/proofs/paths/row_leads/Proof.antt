@@ -12,38 +12,38 @@ use Rattle.lemma.proofs.paths.row_leads.Tie as tie
 abbrev alone : tie.Start → EdgeTable
 alone s = table_of s.args.values.now s.args.truths.now (s.args.row ∷ []) 1
 
-touches-requires : tie.Need-touches-requires
-touches-requires c κs = tt
+touches_requires : tie.Need-touches-requires
+touches_requires c κs = tt
 
-open-way-requires : tie.Need-open-way-requires
-open-way-requires c κs = tt
+open_way_requires : tie.Need-open_way-way-requires
+open_way_requires c κs = tt
 
-step-cost-requires : tie.Need-step-cost-requires
-step-cost-requires c κs = tt
+step_cost_requires : tie.Need-step_cost-cost-requires
+step_cost_requires c κs = tt
 
-leads-nearer-requires : tie.Need-leads-nearer-requires
-leads-nearer-requires c κs =
-    let s = c.before.before.before.before in
-    let way = c.before.open-way.result in
-    let is = c.before.open-way.ensures in (
-      (λ opens. (rw (way_left (alone s) s.args.x 0 way is opens) s.requires.0.0, rw (way_right (alone s) s.args.x 0 way is opens) s.requires.0.1)),
+leads_nearer_requires : tie.Need-leads_nearer-requires
+leads_nearer_requires c κs =
+    let s = c in
+    let way = c.open_way-way.result in
+    let is = c.open_way-way.ensures in (
+      (λ opens. (rw (way_left (alone s.before.before.before.before) s.args.x 0 way is opens) s.requires.0.0, rw (way_right (alone s.before.before.before.before) s.args.x 0 way is opens) s.requires.0.1)),
       s.requires.1,
       s.requires.2,
     )
 
-returns : tie.Need-returns
+returns : tie.Need-returns-then-touches
 returns c =
-    let o = c.before.before in
-    let s = o.before.before.before in
-    let way = o.open-way.result in
-    c.leads-nearer.ensures
-    ∙ ap (λ (cost : ℕ). nearer_over way.open way.left way.right cost s.args.distances.now s.args.a s.args.goal) c.before.step-cost.ensures
-    ∙ way_nearer (alone s) s.args.x 0 way o.open-way.ensures s.args.distances.now s.args.a s.args.goal
+    let o = c in
+    let s = o in
+    let way = o.open_way-way.result in
+    c.leads_nearer.ensures
+    ∙ ap (λ (cost : ℕ). nearer_over way.open way.left way.right cost s.args.distances.now s.args.a s.args.goal) c.step_cost-cost.ensures
+    ∙ way_nearer (alone s.before.before.before.before.before) s.args.x 0 way o.open_way-way.ensures s.args.distances.now s.args.a s.args.goal
 
-returns-2 : tie.Need-returns-2
-returns-2 c =
-    let args = c.before.before.args in
-    sym (row_off args.distances.now args.a args.goal args.values.now args.truths.now args.x args.row (sym c.before.touches.ensures ∙ c.if1.false))
+returns_2 : tie.Need-returns
+returns_2 c =
+    let args = c.args in
+    sym (row_off args.distances.now args.a args.goal args.values.now args.truths.now args.x args.row (sym c.touches.ensures ∙ c.if-touches.false))
 
-pub row-leads-spec : {M : Type 1} → statement M
-row-leads-spec = tie.close (tie.spec touches-requires open-way-requires step-cost-requires leads-nearer-requires returns returns-2)
+pub row_leads_spec : {M : Type 1} → statement M
+row_leads_spec = tie.close (tie.spec touches_requires open_way_requires step_cost_requires leads_nearer_requires returns returns_2)

@@ -1,0 +1,19 @@
+-- `lemma::between::path_between` meets its contract: from the goal itself the path has no step, and from elsewhere it is found by the
+-- table of distances. Assumes nothing.
+use borrow.Author.Rules.{rules}
+use Rattle.lemma.proofs.Opened.{asked, at_home}
+use Rattle.lemma.proofs.between.path_between.Goals as goal
+
+pub returns-then-from-goal : goal.returns-then-from-goal
+returns-then-from-goal c =
+    let args = c.args in
+    let pre = c.requires in
+    at_home args.values.now args.truths.now args.edges.now args.ways args.arrays pre.lent args.x args.from args.goal pre.from_in pre.reached args.path.now pre.room c.if-from-goal.true
+
+pub least_path-requires : goal.least_path-requires
+least_path-requires c =
+    let distances = c.distances-distances in
+    let start = c in
+    let args = start.args in
+    let pre = start.requires in
+    (asked args.values.now args.truths.now args.edges.now args.ways args.arrays pre.lent args.x args.from args.goal pre.from_in pre.reached distances.result pre.goal_in distances.ensures, pre.room)
