@@ -13,117 +13,117 @@ use Rattle.cnf.proofs.Tally.{Tallied, tally_none, tally_more, totals}
 use Rattle.cnf.proofs.counts.Statement.{statement}
 use Rattle.cnf.proofs.counts.Tie as tie
 
-abbrev invariant-loop : tie.invariant-loop
-invariant-loop literals count width clauses₀ fresh₀ booleans₀ k₀ clauses fresh booleans k =
+abbrev invariant_loop : tie.invariant-loop-k
+invariant_loop literals count width clauses₀ fresh₀ booleans₀ k₀ clauses fresh booleans k =
     Tallied width (listed literals count) clauses fresh booleans k × (clauses ≤ 128 * k) × (fresh ≤ 64 * k) × (booleans ≤ k) × (k ≤ count)
 
-abbrev decreases-loop : tie.decreases-loop
-decreases-loop literals count width clauses₀ fresh₀ booleans₀ k₀ clauses fresh booleans k = count - k
+abbrev decreases_loop : tie.decreases-loop-k
+decreases_loop literals count width clauses₀ fresh₀ booleans₀ k₀ clauses fresh booleans k = count - k
 
 -- the literals that are lent
-abbrev lent : tie.Start invariant-loop decreases-loop → Literals
+abbrev lent : tie.Start invariant_loop decreases_loop → Literals
 lent start = listed start.args.literals.now start.args.count
 
-loop-holds : tie.Need-loop-init invariant-loop decreases-loop
-loop-holds c = (tally_none c.args.width (lent c), omega arith, omega arith, omega arith, omega arith)
+loop_holds : tie.Need-loop-k-init invariant_loop decreases_loop
+loop_holds c = (tally_none c.args.width (lent c), omega arith, omega arith, omega arith, omega arith)
 
-mul-tag-of : tie.Need-overflow-mul-tag-of invariant-loop decreases-loop
-mul-tag-of c = omega arith
+mul_tag_of : tie.Need-offset_bounds-literals-k invariant_loop decreases_loop
+mul_tag_of c = omega arith
 
-element-copy-out-tag-of : tie.Need-element-copy-out-tag-of invariant-loop decreases-loop
-element-copy-out-tag-of c = omega arith
+element_copy_out_tag_of : tie.Need-bounds-literals-k invariant_loop decreases_loop
+element_copy_out_tag_of c = omega arith
 
-tag-of-requires : tie.Need-tag-of-requires invariant-loop decreases-loop
-tag-of-requires c κs = tt
+tag_of_requires : tie.Need-tag_of-tag-requires invariant_loop decreases_loop
+tag_of_requires c κs = tt
 
-clause-count-requires : tie.Need-clause-count-requires invariant-loop decreases-loop
-clause-count-requires c κs = omega arith
+clause_count_requires : tie.Need-clause_count-clauses-requires invariant_loop decreases_loop
+clause_count_requires c κs = omega arith
 
-add-clauses : tie.Need-overflow-add-clauses invariant-loop decreases-loop
-add-clauses c = omega arith
+add_clauses : tie.Need-overflow_add-clauses invariant_loop decreases_loop
+add_clauses c = omega arith
 
-freshes-requires : tie.Need-freshes-requires invariant-loop decreases-loop
-freshes-requires c κs = omega arith
+freshes_requires : tie.Need-freshes-fresh-requires invariant_loop decreases_loop
+freshes_requires c κs = omega arith
 
-add-fresh : tie.Need-overflow-add-fresh invariant-loop decreases-loop
-add-fresh c = omega arith
+add_fresh : tie.Need-overflow_add-fresh invariant_loop decreases_loop
+add_fresh c = omega arith
 
-rank-requires : tie.Need-rank-requires invariant-loop decreases-loop
-rank-requires c κs = tt
+rank_requires : tie.Need-rank-requires invariant_loop decreases_loop
+rank_requires c κs = tt
 
-one-if-requires : tie.Need-one-if-requires invariant-loop decreases-loop
-one-if-requires c κs = tt
+one_if_requires : tie.Need-one_if-booleans-requires invariant_loop decreases_loop
+one_if_requires c κs = tt
 
-add-booleans : tie.Need-overflow-add-booleans invariant-loop decreases-loop
-add-booleans c = omega arith
+add_booleans : tie.Need-overflow_add-booleans invariant_loop decreases_loop
+add_booleans c = omega arith
 
-add-k : tie.Need-overflow-add-k invariant-loop decreases-loop
-add-k c = omega arith
+add_k : tie.Need-overflow_add-k invariant_loop decreases_loop
+add_k c = omega arith
 
-loop-less : tie.Need-loop-smaller invariant-loop decreases-loop
-loop-less c = omega arith
+loop_less : tie.Need-loop-k-smaller invariant_loop decreases_loop
+loop_less c = omega arith
 
-loop-again : tie.Need-loop-preserved invariant-loop decreases-loop
-loop-again c =
-    let rank = c.before in
-    let freshes = rank.before in
-    let clauses = freshes.before in
-    let tag = clauses.before in
-    let inside = tag.before.before in
-    let loop = inside.before.loop in
-    let start = inside.before.before in
+loop_again : tie.Need-loop-k-preserved invariant_loop decreases_loop
+loop_again c =
+    let rank = c in
+    let freshes = rank in
+    let clauses = freshes in
+    let tag = clauses in
+    let inside = tag in
+    let loop = inside.loop-k in
+    let start = inside in
     let width = start.args.width in
     let tallied =
-    tally_more width (lent start) loop.clauses loop.fresh loop.booleans loop.k _ _ _ inside.loop-test.true loop.invariant.0
-    (of_literal width (lent start) loop.k loop.fresh (λ one. length one.clauses) tag.tag_of.ensures clauses.clause-count.ensures.0)
-    (of_literal width (lent start) loop.k loop.fresh (λ one. one.freshes) tag.tag_of.ensures freshes.freshes.ensures.0)
-    (c.one-if.ensures.0 ∙ ap (λ (rank : ℕ). cond (eqb rank 0) 1 0) (of_literal width (lent start) loop.k loop.fresh (λ one. one.rank) tag.tag_of.ensures (rank.rank.ensures width))) in
+    tally_more width (lent start.before.before.before.before.before.before.before.before.before) loop.clauses loop.fresh loop.booleans loop.k _ _ _ inside.loop-k-test.true loop.invariant.0
+    (of_literal width (lent start.before.before.before.before.before.before.before.before.before) loop.k loop.fresh (λ one. length one.clauses) tag.tag_of-tag.ensures clauses.clause_count-clauses.ensures.0)
+    (of_literal width (lent start.before.before.before.before.before.before.before.before.before) loop.k loop.fresh (λ one. one.freshes) tag.tag_of-tag.ensures freshes.freshes-fresh.ensures.0)
+    (c.one_if-booleans.ensures.0 ∙ ap (λ (rank : ℕ). cond (eqb rank 0) 1 0) (of_literal width (lent start.before.before.before.before.before.before.before.before.before) loop.k loop.fresh (λ one. one.rank) tag.tag_of-tag.ensures (rank.rank.ensures width))) in
     (tallied, omega arith, omega arith, omega arith, omega arith)
 
-mul-numbers : tie.Need-overflow-mul-numbers invariant-loop decreases-loop
-mul-numbers c = omega arith
+mul_numbers : tie.Need-overflow_mul-numbers invariant_loop decreases_loop
+mul_numbers c = omega arith
 
-add-numbers : tie.Need-overflow-add-numbers invariant-loop decreases-loop
-add-numbers c = omega arith
+add_numbers : tie.Need-overflow_add-numbers invariant_loop decreases_loop
+add_numbers c = omega arith
 
-add-numbers-2 : tie.Need-overflow-add-numbers-2 invariant-loop decreases-loop
-add-numbers-2 c = omega arith
+add_numbers_2 : tie.Need-overflow_add-numbers-2 invariant_loop decreases_loop
+add_numbers_2 c = omega arith
 
-add-numbers-3 : tie.Need-overflow-add-numbers-3 invariant-loop decreases-loop
-add-numbers-3 c = omega arith
+add_numbers_3 : tie.Need-overflow_add-numbers-3 invariant_loop decreases_loop
+add_numbers_3 c = omega arith
 
-add-clauses-2 : tie.Need-overflow-add-clauses-2 invariant-loop decreases-loop
-add-clauses-2 c = omega arith
+add_clauses_2 : tie.Need-overflow_add-clauses-2 invariant_loop decreases_loop
+add_clauses_2 c = omega arith
 
-returns : tie.Need-returns invariant-loop decreases-loop
+returns : tie.Need-returns invariant_loop decreases_loop
 returns c =
-    let start = c.before.before in
-    let loop = c.before.loop in
-    totals start.args.width (lent start) loop.clauses loop.fresh loop.booleans loop.k c.loop-test.false loop.invariant.0
+    let start = c in
+    let loop = c.loop-k in
+    totals start.args.width (lent start.before.before) loop.clauses loop.fresh loop.booleans loop.k c.loop-k-test.false loop.invariant.0
 
-pub counts-spec : {M : Type 1} → statement M
-counts-spec =
+pub counts_spec : {M : Type 1} → statement M
+counts_spec =
     tie.close
     (tie.spec
-    invariant-loop
-    decreases-loop
-    loop-holds
-    mul-tag-of
-    element-copy-out-tag-of
-    tag-of-requires
-    clause-count-requires
-    add-clauses
-    freshes-requires
-    add-fresh
-    rank-requires
-    one-if-requires
-    add-booleans
-    add-k
-    loop-less
-    loop-again
-    mul-numbers
-    add-numbers
-    add-numbers-2
-    add-numbers-3
-    add-clauses-2
+    invariant_loop
+    decreases_loop
+    loop_holds
+    mul_tag_of
+    element_copy_out_tag_of
+    tag_of_requires
+    clause_count_requires
+    add_clauses
+    freshes_requires
+    add_fresh
+    rank_requires
+    one_if_requires
+    add_booleans
+    add_k
+    loop_less
+    loop_again
+    mul_numbers
+    add_numbers
+    add_numbers_2
+    add_numbers_3
+    add_clauses_2
     returns)

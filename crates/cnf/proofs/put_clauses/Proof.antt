@@ -29,27 +29,27 @@ begin : (start : tie.Start)
 begin start = left_as (run_parts (sizes start) (lent start)) (begun _ _ _)
 
 -- the literals' clauses, seen from the linking clause
-abbrev first : tie.After-put-linking-arg → tie.After-put-each
+abbrev first : tie.After-put_linking-arg-1 → tie.After-put_each-at
 first c = c.before.before
 
-put-each-requires : tie.Need-put-each-requires
-put-each-requires c κs =
-    let start = c.before in
-    (small start, start.requires.0, room_for (all_of (sizes start) 3 (lent start)) _ (begin start) (omega arith))
+put_each_requires : tie.Need-put_each-at-requires
+put_each_requires c κs =
+    let start = c in
+    (small start.before, start.requires.0, room_for (all_of (sizes start.before) 3 (lent start.before)) _ (begin start.before) (omega arith))
 
-put-linking-requires : tie.Need-put-linking-requires
-put-linking-requires c κs =
-    let start = (first c).before.before in
-    (small start, start.pre.0, room (further (all_of (sizes start) 3 (lent start)) (begin start) (first c).put-each.ensures) (omega arith))
+put_linking_requires : tie.Need-put_linking-requires
+put_linking_requires c κs =
+    let start = first c in
+    (small start.before.before, start.requires.0, room (further (all_of (sizes start.before.before) 3 (lent start.before.before)) (begin start.before.before) (first c).put_each-at.ensures) (omega arith))
 
-same_length : tie.Need-same-length
+same_length : tie.Need-shape_of-numbers
 same_length c = search rules
 
 returns : tie.Need-returns
 returns c =
     let one = first c.before.before in
-    let start = one.before.before in
-    from_start _ _ _ _ (done (further (linking_of (sizes start) (lent start)) (left_as (sym (append-nil _)) (further (all_of (sizes start) 3 (lent start)) (begin start) one.put-each.ensures)) c.before.put-linking.ensures)) start.pre.4
+    let start = one in
+    from_start _ _ _ _ (done (further (linking_of (sizes start.before.before) (lent start.before.before)) (left_as (sym (append-nil _)) (further (all_of (sizes start.before.before) 3 (lent start.before.before)) (begin start.before.before) one.put_each-at.ensures)) c.put_linking.ensures)) start.requires.4
 
-pub put-clauses-spec : {M : Type 1} → statement M
-put-clauses-spec = tie.close (tie.spec put-each-requires put-linking-requires same_length returns)
+pub put_clauses_spec : {M : Type 1} → statement M
+put_clauses_spec = tie.close (tie.spec put_each_requires put_linking_requires same_length returns)

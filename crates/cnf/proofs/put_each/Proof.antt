@@ -14,91 +14,91 @@ use Rattle.cnf.proofs.Whole.{gadget_at, parts_from, parts_step, literals_all, li
 use Rattle.cnf.proofs.put_each.Statement.{statement}
 use Rattle.cnf.proofs.put_each.Tie as tie
 
-abbrev invariant-loop : tie.invariant-loop
-invariant-loop sizes literals count part numbers₀ at next₀ fresh₀ k₀ numbers next fresh k =
+abbrev invariant_loop : tie.invariant-loop-k
+invariant_loop sizes literals count part numbers₀ at next₀ fresh₀ k₀ numbers next fresh k =
     Left numbers₀ at (all_of sizes part (listed literals count)) numbers next (parts_from sizes part (listed literals count) fresh k) × (fresh ≤ 64 * k)
 
-abbrev decreases-loop : tie.decreases-loop
-decreases-loop sizes literals count part numbers₀ at next₀ fresh₀ k₀ numbers next fresh k = count - k
+abbrev decreases_loop : tie.decreases-loop-k
+decreases_loop sizes literals count part numbers₀ at next₀ fresh₀ k₀ numbers next fresh k = count - k
 
 -- the literals that are lent, and the part of the one that it is the turn of
-abbrev lent : tie.Start invariant-loop decreases-loop → Literals
+abbrev lent : tie.Start invariant_loop decreases_loop → Literals
 lent start = listed start.args.literals.now start.args.count
 
-abbrev part : tie.At-loop invariant-loop decreases-loop → List ℤ
+abbrev part : tie.At-loop-k invariant_loop decreases_loop → List ℤ
 part c =
-    let args = c.before.args in
-    part_of args.sizes args.part (gadget_at args.sizes.width (lent c.before) c.loop.k c.loop.fresh)
+    let args = c.args in
+    part_of args.sizes args.part (gadget_at args.sizes.width (lent c.before) c.loop-k.k c.loop-k.fresh)
 
 -- the literal, seen from its fresh variables
-abbrev placed : tie.After-freshes invariant-loop decreases-loop → tie.After-literal-at invariant-loop decreases-loop
+abbrev placed : tie.After-freshes-fresh invariant_loop decreases_loop → tie.After-literal_at-literal invariant_loop decreases_loop
 placed c = c.before.before.before.before
 
-loop-holds : tie.Need-loop-init invariant-loop decreases-loop
-loop-holds c = (rw literals_all (begun _ _ _), omega arith)
+loop_holds : tie.Need-loop-k-init invariant_loop decreases_loop
+loop_holds c = (rw literals_all (begun _ _ _), omega arith)
 
 -- its part is the first of what is left
-ahead : (c : tie.In-loop invariant-loop decreases-loop)
-    → let args = c.before.before.args in
-    let loop = c.before.loop in
+ahead : (c : tie.In-loop-k invariant_loop decreases_loop)
+    → let args = c.args in
+    let loop = c.loop-k in
     let literals = lent c.before.before in
     Left args.numbers.now args.at (all_of args.sizes args.part literals) loop.numbers loop.next
     (part c.before ++ parts_from args.sizes args.part literals (loop.fresh + (gadget_at args.sizes.width literals loop.k loop.fresh).freshes) (loop.k + 1))
 ahead c =
-    let args = c.before.before.args in
-    left_as (parts_step args.sizes args.part (lent c.before.before) c.before.loop.fresh c.before.loop.k c.loop-test.true) c.before.loop.invariant.0
+    let args = c.args in
+    left_as (parts_step args.sizes args.part (lent c.before.before) c.loop-k.fresh c.loop-k.k c.loop-k-test.true) c.loop-k.invariant.0
 
-literal-at-requires : tie.Need-literal-at-requires invariant-loop decreases-loop
-literal-at-requires c κs = omega arith
+literal_at_requires : tie.Need-literal_at-literal-requires invariant_loop decreases_loop
+literal_at_requires c κs = omega arith
 
-put-part-requires : tie.Need-put-part-requires invariant-loop decreases-loop
-put-part-requires c κs =
-    let one = c.before.literal-at.ensures in
-    let inside = c.before.before in
-    let start = inside.before.before in
-    (start.requires.0, one.1, rw one.0 (room_for (part inside.before) _ (ahead inside) start.requires.2))
+put_part_requires : tie.Need-put_part-next-requires invariant_loop decreases_loop
+put_part_requires c κs =
+    let one = c.literal_at-literal.ensures in
+    let inside = c in
+    let start = inside in
+    (start.requires.0, one.1, rw one.0 (room_for (part inside.before.before.before) _ (ahead inside.before.before) start.requires.2))
 
-freshes-requires : tie.Need-freshes-requires invariant-loop decreases-loop
-freshes-requires c κs = omega arith
+freshes_requires : tie.Need-freshes-fresh-requires invariant_loop decreases_loop
+freshes_requires c κs = omega arith
 
-add-fresh : tie.Need-overflow-add-fresh invariant-loop decreases-loop
-add-fresh c = omega arith
+add_fresh : tie.Need-overflow_add-fresh invariant_loop decreases_loop
+add_fresh c = omega arith
 
-add-k : tie.Need-overflow-add-k invariant-loop decreases-loop
-add-k c = omega arith
+add_k : tie.Need-overflow_add-k invariant_loop decreases_loop
+add_k c = omega arith
 
-loop-less : tie.Need-loop-smaller invariant-loop decreases-loop
-loop-less c = omega arith
+loop_less : tie.Need-loop-k-smaller invariant_loop decreases_loop
+loop_less c = omega arith
 
-loop-again : tie.Need-loop-preserved invariant-loop decreases-loop
-loop-again c =
-    let one = (placed c).literal-at.ensures.0 in
-    let inside = (placed c).before in
-    let loop = inside.before.loop in
-    let args = inside.before.before.args in
-    let put = put_as (ap (λ (l : Placed). part_of args.sizes args.part (gadget_of args.sizes.width l)) one) c.before.before.put-part.ensures in
-    let own = of_literal args.sizes.width (lent inside.before.before) loop.k loop.fresh (λ brought. brought.freshes) (ap (λ (l : Placed). l.tag) one) c.freshes.ensures.0 in
-    (rw own (further (part inside.before) (ahead inside) put), omega arith)
+loop_again : tie.Need-loop-k-preserved invariant_loop decreases_loop
+loop_again c =
+    let one = (placed c).literal_at-literal.ensures.0 in
+    let inside = placed c in
+    let loop = inside.loop-k in
+    let args = inside.args in
+    let put = put_as (ap (λ (l : Placed). part_of args.sizes args.part (gadget_of args.sizes.width l)) one) c.put_part-next.ensures in
+    let own = of_literal args.sizes.width (lent inside.before.before.before) loop.k loop.fresh (λ brought. brought.freshes) (ap (λ (l : Placed). l.tag) one) c.freshes-fresh.ensures.0 in
+    (rw own (further (part inside.before.before) (ahead inside.before) put), omega arith)
 
-same_length : tie.Need-same-length invariant-loop decreases-loop
-same_length c = c.before.loop.invariant.0.long
+same_length : tie.Need-shape_of-numbers invariant_loop decreases_loop
+same_length c = c.loop-k.invariant.0.long
 
-returns : tie.Need-returns invariant-loop decreases-loop
-returns c = done (left_as (rw (literals_end (lent c.before.before) c.before.loop.k c.loop-test.false)) c.before.loop.invariant.0)
+returns : tie.Need-returns invariant_loop decreases_loop
+returns c = done (left_as (rw (literals_end (lent c.before.before) c.loop-k.k c.loop-k-test.false)) c.loop-k.invariant.0)
 
-pub put-each-spec : {M : Type 1} → statement M
-put-each-spec =
+pub put_each_spec : {M : Type 1} → statement M
+put_each_spec =
     tie.close
     (tie.spec
-    invariant-loop
-    decreases-loop
-    loop-holds
-    literal-at-requires
-    put-part-requires
-    freshes-requires
-    add-fresh
-    add-k
-    loop-less
-    loop-again
+    invariant_loop
+    decreases_loop
+    loop_holds
+    literal_at_requires
+    put_part_requires
+    freshes_requires
+    add_fresh
+    add_k
+    loop_less
+    loop_again
     same_length
     returns)

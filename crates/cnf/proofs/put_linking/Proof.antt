@@ -25,40 +25,40 @@ begin : (start : tie.Start)
 begin start = left_as (linking_parts start.args.sizes (lent start)) (begun _ _ _)
 
 -- each call, seen from the next
-abbrev first : tie.After-put-each-arg2 → tie.After-put-each
+abbrev first : tie.After-put_each-arg-2-1 → tie.After-put_each-at
 first c = c.before.before
 
-abbrev second : tie.After-put-each-arg3 → tie.After-put-each2
+abbrev second : tie.After-put_each-arg-3-1 → tie.After-put_each-at-2
 second c = c.before.before
 
-abbrev third : tie.After-put-signed-arg → tie.After-put-each3
+abbrev third : tie.After-put_signed-arg-1 → tie.After-put_each-at-3
 third c = c.before.before
 
-put-each-requires : tie.Need-put-each-requires
-put-each-requires c κs =
-    let start = c.before in
-    (start.requires.0, start.requires.1, room_for (links start 0) _ (begin start) start.requires.2)
+put_each_requires : tie.Need-put_each-at-requires
+put_each_requires c κs =
+    let start = c in
+    (start.requires.0, start.requires.1, room_for (links start.before 0) _ (begin start.before) start.requires.2)
 
-put-each-requires-2 : tie.Need-put-each-requires-2
-put-each-requires-2 c κs =
-    let start = (first c).before.before in
-    (start.pre.0, start.pre.1, room_for (links start 1) _ (further (links start 0) (begin start) (first c).put-each.ensures) start.pre.2)
+put_each_requires_2 : tie.Need-put_each-at-requires-2
+put_each_requires_2 c κs =
+    let start = first c in
+    (start.requires.0, start.requires.1, room_for (links start.before.before 1) _ (further (links start.before.before 0) (begin start.before.before) (first c).put_each-at.ensures) start.requires.2)
 
-put-each-requires-3 : tie.Need-put-each-requires-3
-put-each-requires-3 c κs =
+put_each_requires_3 : tie.Need-put_each-at-requires-3
+put_each_requires_3 c κs =
     let one = first (second c).before in
-    let start = one.before.before in
-    (start.pre.0, start.pre.1, room_for (links start 2) (pos 0 ∷ []) (further (links start 1) (further (links start 0) (begin start) one.put-each.ensures) (second c).put-each2.ensures) start.pre.2)
+    let start = one in
+    (start.requires.0, start.requires.1, room_for (links start.before.before 2) (pos 0 ∷ []) (further (links start.before.before 1) (further (links start.before.before 0) (begin start.before.before) one.put_each-at.ensures) (second c).put_each-at-2.ensures) start.requires.2)
 
-put-signed-requires : tie.Need-put-signed-requires
-put-signed-requires c κs =
+put_signed_requires : tie.Need-put_signed-requires
+put_signed_requires c κs =
     let two = second (third c).before in
     let one = first two.before in
-    let start = one.before.before in
-    let left = further (links start 2) (further (links start 1) (further (links start 0) (begin start) one.put-each.ensures) two.put-each2.ensures) (third c).put-each3.ensures in
-    (omega arith, omega (arith, room left start.pre.2))
+    let start = one in
+    let left = further (links start.before.before 2) (further (links start.before.before 1) (further (links start.before.before 0) (begin start.before.before) one.put_each-at.ensures) two.put_each-at-2.ensures) (third c).put_each-at-3.ensures in
+    (omega arith, omega (arith, room left start.requires.2))
 
-same_length : tie.Need-same-length
+same_length : tie.Need-shape_of-numbers
 same_length c = search rules
 
 returns : tie.Need-returns
@@ -66,16 +66,16 @@ returns c =
     let three = third c.before.before in
     let two = second three.before in
     let one = first two.before in
-    let start = one.before.before in
-    done (further (pos 0 ∷ []) (further (links start 2) (further (links start 1) (further (links start 0) (begin start) one.put-each.ensures) two.put-each2.ensures) three.put-each3.ensures) c.before.put-signed.ensures)
+    let start = one in
+    done (further (pos 0 ∷ []) (further (links start.before.before 2) (further (links start.before.before 1) (further (links start.before.before 0) (begin start.before.before) one.put_each-at.ensures) two.put_each-at-2.ensures) three.put_each-at-3.ensures) c.put_signed.ensures)
 
-pub put-linking-spec : {M : Type 1} → statement M
-put-linking-spec =
+pub put_linking_spec : {M : Type 1} → statement M
+put_linking_spec =
     tie.close
     (tie.spec
-    put-each-requires
-    put-each-requires-2
-    put-each-requires-3
-    put-signed-requires
+    put_each_requires
+    put_each_requires_2
+    put_each_requires_3
+    put_signed_requires
     same_length
     returns)

@@ -8,38 +8,38 @@ use Rattle.front.proofs.judge.Statement.{statement}
 use Rattle.front.proofs.judge.Tie as tie
 
 -- the bytes of the query, seen from behind the load
-small : (l : tie.After-load) → (i : ℕ) → get_or l.before.before.before.before.before.before.before.args.query.now i 0 < 256
-small l i = (l.before.before.before.before.before.before.shared-slice-known.given i).fits
+small : (l : tie.After-load-loaded) → (i : ℕ) → get_or l.args.query.now i 0 < 256
+small l i = (l.shared_slice_known-1.given i).fits
 
-load-requires : tie.Need-load-requires
-load-requires c κs = search rules
+load_requires : tie.Need-load-loaded-requires
+load_requires c κs = search rules
 
-returns : tie.Need-returns
+returns : tie.Need-returns-then-refusal-ne0
 returns c =
-    let loads = c.before.before.load.ensures in
-    record { query = loads.query; holds = loads.holds; loaded = loads.loaded; graph = λ accepted. absurd (c.if1.true accepted); ruled = λ accepted. absurd (c.if1.true accepted) }
+    let loads = c.load-loaded.ensures in
+    record { query = loads.query; holds = loads.holds; loaded = loads.loaded; graph = λ accepted. absurd (c.if-refusal-ne0.true accepted); ruled = λ accepted. absurd (c.if-refusal-ne0.true accepted) }
 
-cast-ways : tie.Need-overflow-cast-ways
-cast-ways c = search rules
+cast_ways : tie.Need-overflow_cast-ways
+cast_ways c = search rules
 
-cast-count : tie.Need-overflow-cast-count
-cast-count c = search rules
+cast_count : tie.Need-overflow_cast-count
+cast_count c = search rules
 
-cast-arrays : tie.Need-overflow-cast-arrays
-cast-arrays c = search rules
+cast_arrays : tie.Need-overflow_cast-arrays
+cast_arrays c = search rules
 
-rule-alone-requires : tie.Need-rule-alone-requires
-rule-alone-requires c κs =
-    let e = c.before.before.before.before.before.before.before in
-    let loads = e.before.before.load.ensures in
-    (within loads.holds (has_graph loads e.if1.false (small e.before.before)), rows_suffice loads e.if1.false (small e.before.before))
+rule_alone_requires : tie.Need-rule_alone-ruling-requires
+rule_alone_requires c κs =
+    let e = c in
+    let loads = e.load-loaded.ensures in
+    (within loads.holds (has_graph loads e.if-refusal-ne0.false (small e.before.before.before.before.before)), rows_suffice loads e.if-refusal-ne0.false (small e.before.before.before.before.before))
 
-returns-2 : tie.Need-returns-2
-returns-2 c =
-    let e = c.before.before.before.before.before.before.before.before in
-    let loads = e.before.before.load.ensures in
-    record { query = loads.query; holds = loads.holds; loaded = loads.loaded; graph = λ accepted. has_graph loads accepted (small e.before.before); ruled = λ accepted. c.rule-alone.ensures }
+returns_2 : tie.Need-returns
+returns_2 c =
+    let e = c in
+    let loads = e.load-loaded.ensures in
+    record { query = loads.query; holds = loads.holds; loaded = loads.loaded; graph = λ accepted. has_graph loads accepted (small e.before.before.before.before.before.before); ruled = λ accepted. c.rule_alone-ruling.ensures }
 
-pub judge-spec : {M : Type 1} → statement M
-judge-spec =
-    tie.close (tie.spec load-requires returns cast-ways cast-count cast-arrays rule-alone-requires returns-2)
+pub judge_spec : {M : Type 1} → statement M
+judge_spec =
+    tie.close (tie.spec load_requires returns cast_ways cast_count cast_arrays rule_alone_requires returns_2)

@@ -11,64 +11,64 @@ use Rattle.cnf.proofs.Pieces.{differences_from, differences_step}
 use Rattle.cnf.proofs.literal.put_differences.Statement.{statement}
 use Rattle.cnf.proofs.literal.put_differences.Tie as tie
 
-abbrev invariant-loop : tie.invariant-loop
-invariant-loop sizes first numbers₀ at width next₀ k₀ numbers next k =
+abbrev invariant_loop : tie.invariant-loop-k
+invariant_loop sizes first numbers₀ at width next₀ k₀ numbers next k =
     Left numbers₀ at (differences sizes first) numbers next (differences_from sizes first k)
 
-abbrev decreases-loop : tie.decreases-loop
-decreases-loop sizes first numbers₀ at width next₀ k₀ numbers next k = width - k
+abbrev decreases_loop : tie.decreases-loop-k
+decreases_loop sizes first numbers₀ at width next₀ k₀ numbers next k = width - k
 
-loop-holds : tie.Need-loop-init invariant-loop decreases-loop
-loop-holds c = rw (sub-zero c.args.sizes.width) (begun _ _ _)
+loop_holds : tie.Need-loop-k-init invariant_loop decreases_loop
+loop_holds c = rw (sub-zero c.args.sizes.width) (begun _ _ _)
 
-add-fresh-variable : tie.Need-overflow-add-fresh-variable invariant-loop decreases-loop
-add-fresh-variable c = omega arith
+add_fresh_variable : tie.Need-overflow_add-first invariant_loop decreases_loop
+add_fresh_variable c = omega arith
 
-fresh-variable-requires : tie.Need-fresh-variable-requires invariant-loop decreases-loop
-fresh-variable-requires c κs = (c.before.before.requires.0, omega arith)
+fresh_variable_requires : tie.Need-fresh_variable-d-requires invariant_loop decreases_loop
+fresh_variable_requires c κs = (c.requires.0, omega arith)
 
 -- the bit's d is the first of what is left
-ahead : (c : tie.In-loop invariant-loop decreases-loop)
-    → let args = c.before.before.args in
-    let loop = c.before.loop in
+ahead : (c : tie.In-loop-k invariant_loop decreases_loop)
+    → let args = c.args in
+    let loop = c.loop-k in
     Left args.numbers.now args.at (differences args.sizes args.first) loop.numbers loop.next
     (pos (args.sizes.width * args.sizes.bases + args.sizes.booleans + (args.first + loop.k) + 1) ∷ differences_from args.sizes args.first (loop.k + 1))
-ahead c = left_as (differences_step c.before.before.args.sizes c.before.before.args.first c.before.loop.k c.loop-test.true) c.before.loop.invariant
+ahead c = left_as (differences_step c.args.sizes c.args.first c.loop-k.k c.loop-k-test.true) c.loop-k.invariant
 
-put-signed-requires : tie.Need-put-signed-requires invariant-loop decreases-loop
-put-signed-requires c κs =
-    let inside = c.before.before in
-    (c.before.fresh-variable.ensures.1, omega (arith, room (ahead inside) inside.before.before.requires.2))
+put_signed_requires : tie.Need-put_signed-next-requires invariant_loop decreases_loop
+put_signed_requires c κs =
+    let inside = c in
+    (c.fresh_variable-d.ensures.1, omega (arith, room (ahead inside.before.before) inside.requires.2))
 
-add-k : tie.Need-overflow-add-k invariant-loop decreases-loop
-add-k c = omega arith
+add_k : tie.Need-overflow_add-k invariant_loop decreases_loop
+add_k c = omega arith
 
-loop-less : tie.Need-loop-smaller invariant-loop decreases-loop
-loop-less c = omega arith
+loop_less : tie.Need-loop-k-smaller invariant_loop decreases_loop
+loop_less c = omega arith
 
-loop-again : tie.Need-loop-preserved invariant-loop decreases-loop
-loop-again c =
-    let inside = c.before.before.before.before in
-    further (_ ∷ []) (ahead inside) (put_as (cc) c.before.put-signed.ensures)
+loop_again : tie.Need-loop-k-preserved invariant_loop decreases_loop
+loop_again c =
+    let inside = c in
+    further (_ ∷ []) (ahead inside.before.before.before.before) (put_as (cc) c.put_signed-next.ensures)
 
-same_length : tie.Need-same-length invariant-loop decreases-loop
-same_length c = c.before.loop.invariant.long
+same_length : tie.Need-shape_of-numbers invariant_loop decreases_loop
+same_length c = c.loop-k.invariant.long
 
-returns : tie.Need-returns invariant-loop decreases-loop
-returns c = done (left_as (rw (range_end c.before.loop.k c.before.before.args.sizes.width c.loop-test.false)) c.before.loop.invariant)
+returns : tie.Need-returns invariant_loop decreases_loop
+returns c = done (left_as (rw (range_end c.loop-k.k c.args.sizes.width c.loop-k-test.false)) c.loop-k.invariant)
 
-pub put-differences-spec : {M : Type 1} → statement M
-put-differences-spec =
+pub put_differences_spec : {M : Type 1} → statement M
+put_differences_spec =
     tie.close
     (tie.spec
-    invariant-loop
-    decreases-loop
-    loop-holds
-    add-fresh-variable
-    fresh-variable-requires
-    put-signed-requires
-    add-k
-    loop-less
-    loop-again
+    invariant_loop
+    decreases_loop
+    loop_holds
+    add_fresh_variable
+    fresh_variable_requires
+    put_signed_requires
+    add_k
+    loop_less
+    loop_again
     same_length
     returns)

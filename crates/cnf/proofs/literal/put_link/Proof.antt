@@ -16,90 +16,90 @@ use Rattle.cnf.proofs.literal.put_link.Tie as tie
 abbrev link : tie.Start → List ℤ
 link start = numbers_of start.args.sizes (gadget_of start.args.sizes.width start.args.literal).link
 
-all-d : (c : tie.At-match-keys1) → link c.before ≡ differences c.before.args.sizes c.before.args.literal.fresh
-all-d c = rw c.match.keys1
+all_d : (c : tie.In-33) → link c.before ≡ differences c.args.sizes c.args.literal.fresh
+all_d c = rw c.in-33.is
 
 is_true : (c : tie.After-variable) → link c.before.before ≡ neg_ℤ (pos c.variable.result) ∷ []
-is_true c = rw c.before.match.keys2 (cc)
+is_true c = rw c.in-35.is (cc)
 
-is_false : (c : tie.After-variable2) → link c.before.before ≡ pos c.variable2.result ∷ []
-is_false c = rw c.before.match.keys3 (cc)
+is_false : (c : tie.After-variable-in-36) → link c.before.before ≡ pos c.variable-in-36.result ∷ []
+is_false c = rw c.in-36.is (cc)
 
-an-e : (c : tie.After-fresh-variable) → link c.before.before ≡ pos c.fresh-variable.result ∷ []
-an-e c =
-    let args = c.before.before.args in
-    let rest = c.before.match.rest in
+an_e : (c : tie.After-fresh_variable) → link c.before.before ≡ pos c.fresh_variable.result ∷ []
+an_e c =
+    let args = c.args in
+    let rest = c.in_default.in_default-own.rest in
     ap (λ (one : Gadget). numbers_of args.sizes one.link) (with_e _ rest.0.0.1 rest.0.1 rest.1 args.sizes.width args.literal.fresh args.literal.left args.literal.right) ∙ cc
 
-put-differences-requires : tie.Need-put-differences-requires
-put-differences-requires c κs =
-    let start = c.before.before in
-    (start.requires.0, start.requires.1.fresh, rw (all-d c.before) at start.requires.2)
+put_differences_requires : tie.Need-put_differences-requires
+put_differences_requires c κs =
+    let start = c in
+    (start.requires.0, start.requires.1.fresh, rw (all_d c.before) at start.requires.2)
 
-variable-requires : tie.Need-variable-requires
-variable-requires c κs = omega arith
+variable_requires : tie.Need-variable-requires
+variable_requires c κs = omega arith
 
-put-signed-requires : tie.Need-put-signed-requires
-put-signed-requires c κs =
-    let fits = rw (is_true c.before) at c.before.before.before.requires.2 in
-    (c.before.variable.ensures.1, omega arith)
+put_signed_requires : tie.Need-put_signed-requires
+put_signed_requires c κs =
+    let fits = rw (is_true c.before) at c.requires.2 in
+    (c.variable.ensures.1, omega arith)
 
-variable-requires-2 : tie.Need-variable-requires-2
-variable-requires-2 c κs = omega arith
+variable_requires_2 : tie.Need-variable-requires-in-36
+variable_requires_2 c κs = omega arith
 
-put-signed-requires-2 : tie.Need-put-signed-requires-2
-put-signed-requires-2 c κs =
-    let fits = rw (is_false c.before) at c.before.before.before.requires.2 in
-    (c.before.variable2.ensures.1, omega arith)
+put_signed_requires_2 : tie.Need-put_signed-requires-in-36
+put_signed_requires_2 c κs =
+    let fits = rw (is_false c.before) at c.requires.2 in
+    (c.variable-in-36.ensures.1, omega arith)
 
-fresh-variable-requires : tie.Need-fresh-variable-requires
-fresh-variable-requires c κs = search rules
+fresh_variable_requires : tie.Need-fresh_variable-requires
+fresh_variable_requires c κs = search rules
 
-put-signed-requires-3 : tie.Need-put-signed-requires-3
-put-signed-requires-3 c κs =
-    let fits = rw (an-e c.before) at c.before.before.before.requires.2 in
-    (c.before.fresh-variable.ensures.1, omega arith)
+put_signed_requires_3 : tie.Need-put_signed-requires-in_default
+put_signed_requires_3 c κs =
+    let fits = rw (an_e c.before) at c.requires.2 in
+    (c.fresh_variable.ensures.1, omega arith)
 
-same_length : tie.Need-same-length
+same_length : tie.Need-shape_of-numbers-in-33
 same_length c = search rules
 
-returns : tie.Need-returns
-returns c = put_as (sym (all-d c.before.before.before)) c.before.put-differences.ensures
+returns : tie.Need-returns-in-33
+returns c = put_as (sym (all_d c.before.before.before)) c.put_differences.ensures
 
-same-length-2 : tie.Need-same-length-2
-same-length-2 c = search rules
+same_length_2 : tie.Need-shape_of-numbers-in-35
+same_length_2 c = search rules
 
-returns-2 : tie.Need-returns-2
-returns-2 c = put_as (sym (is_true c.before.before.before)) c.before.put-signed.ensures
+returns_2 : tie.Need-returns-in-35
+returns_2 c = put_as (sym (is_true c.before.before.before)) c.put_signed.ensures
 
-same-length-3 : tie.Need-same-length-3
-same-length-3 c = search rules
+same_length_3 : tie.Need-shape_of-numbers-in-36
+same_length_3 c = search rules
 
-returns-3 : tie.Need-returns-3
-returns-3 c = put_as (sym (is_false c.before.before.before)) c.before.put-signed2.ensures
+returns_3 : tie.Need-returns-in-36
+returns_3 c = put_as (sym (is_false c.before.before.before)) c.put_signed-in-36.ensures
 
-same-length-4 : tie.Need-same-length-4
-same-length-4 c = search rules
+same_length_4 : tie.Need-shape_of-numbers-in_default
+same_length_4 c = search rules
 
-returns-4 : tie.Need-returns-4
-returns-4 c = put_as (sym (an-e c.before.before.before)) c.before.put-signed3.ensures
+returns_4 : tie.Need-returns-in_default
+returns_4 c = put_as (sym (an_e c.before.before.before)) c.put_signed-in_default.ensures
 
-pub put-link-spec : {M : Type 1} → statement M
-put-link-spec =
+pub put_link_spec : {M : Type 1} → statement M
+put_link_spec =
     tie.close
     (tie.spec
-    put-differences-requires
-    variable-requires
-    put-signed-requires
-    variable-requires-2
-    put-signed-requires-2
-    fresh-variable-requires
-    put-signed-requires-3
+    put_differences_requires
+    variable_requires
+    put_signed_requires
+    variable_requires_2
+    put_signed_requires_2
+    fresh_variable_requires
+    put_signed_requires_3
     same_length
     returns
-    same-length-2
-    returns-2
-    same-length-3
-    returns-3
-    same-length-4
-    returns-4)
+    same_length_2
+    returns_2
+    same_length_3
+    returns_3
+    same_length_4
+    returns_4)

@@ -15,70 +15,70 @@ use Rattle.cnf.proofs.literal.put_part.Tie as tie
 abbrev part : tie.Start → List ℤ
 part start = part_of start.args.sizes start.args.part (gadget_of start.args.sizes.width start.args.literal)
 
-rank_is : (c : tie.After-rank) → c.rank.result ≡ (gadget_of c.before.args.sizes.width c.before.args.literal).rank
-rank_is c = c.rank.ensures _ _ _ _
+rank_is : (c : tie.After-rank-rank) → c.rank-rank.result ≡ (gadget_of c.args.sizes.width c.args.literal).rank
+rank_is c = c.rank-rank.ensures _ _ _ _
 
-no_bits : (c : tie.Then2) → part c.before.before.before ≡ []
+no_bits : (c : tie.Then-rank-eq0) → part c.before.before.before ≡ []
 no_bits c =
-    let ranked = c.before.before in
-    rw (c.before.if1.true, no_clauses_lem _ ranked.before.args.literal (sym (rank_is ranked) ∙ c.if2.true))
+    let ranked = c in
+    rw (c.if-part-eq-CLAUSES.true, no_clauses_lem _ ranked.args.literal (sym (rank_is ranked.before.before) ∙ c.if-rank-eq0.true))
 
-bits : (c : tie.Else2)
+bits : (c : tie.Else-rank-eq0)
     → let start = c.before.before.before in
     part start ≡ bit_numbers start.args.sizes start.args.literal
 bits c =
-    let ranked = c.before.before in
-    rw (c.before.if1.true, by_bits _ ranked.before.args.literal (λ none. c.if2.false (rank_is ranked ∙ none)))
+    let ranked = c in
+    rw (c.if-part-eq-CLAUSES.true, by_bits _ ranked.args.literal (λ none. c.if-rank-eq0.false (rank_is ranked.before.before ∙ none)))
 
-link : (c : tie.Then3)
+link : (c : tie.Then-rank-part)
     → let start = c.before.before.before in
     part start ≡ numbers_of start.args.sizes (gadget_of start.args.sizes.width start.args.literal).link
-link c = rw (ne_eqb _ 3 c.before.if1.false, eq-eqb _ _ (sym (rank_is c.before.before) ∙ c.if3.true))
+link c = rw (ne_eqb _ 3 c.if-part-eq-CLAUSES.false, eq-eqb _ _ (sym (rank_is c.before.before) ∙ c.if-rank-part.true))
 
-no-link : (c : tie.Else3) → part c.before.before.before ≡ []
-no-link c = rw (ne_eqb _ 3 c.before.if1.false, ne_eqb _ _ (λ same. c.if3.false (rank_is c.before.before ∙ same)))
+no_link : (c : tie.Else-rank-part) → part c.before.before.before ≡ []
+no_link c = rw (ne_eqb _ 3 c.if-part-eq-CLAUSES.false, ne_eqb _ _ (λ same. c.if-rank-part.false (rank_is c.before.before ∙ same)))
 
-rank-requires : tie.Need-rank-requires
-rank-requires c κs = search rules
+rank_requires : tie.Need-rank-rank-requires
+rank_requires c κs = search rules
 
-put-bits-requires : tie.Need-put-bits-requires
-put-bits-requires c κs =
-    let start = c.before.before.before.before in
+put_bits_requires : tie.Need-put_bits-requires
+put_bits_requires c κs =
+    let start = c in
     (start.requires.0, start.requires.1, rw (bits c.before) at start.requires.2)
 
-put-link-requires : tie.Need-put-link-requires
-put-link-requires c κs =
-    let start = c.before.before.before.before in
+put_link_requires : tie.Need-put_link-requires
+put_link_requires c κs =
+    let start = c in
     (start.requires.0, start.requires.1, rw (link c.before) at start.requires.2)
 
-returns : tie.Need-returns
+returns : tie.Need-returns-then-rank-eq0
 returns c = rw (no_bits c) (nothing _ _)
 
-same_length : tie.Need-same-length
+same_length : tie.Need-shape_of-numbers-else-rank-eq0
 same_length c = search rules
 
-returns-2 : tie.Need-returns-2
-returns-2 c = put_as (sym (bits c.before.before.before)) c.before.put-bits.ensures
+returns_2 : tie.Need-returns-else-rank-eq0
+returns_2 c = put_as (sym (bits c.before.before.before)) c.put_bits.ensures
 
-same-length-2 : tie.Need-same-length-2
-same-length-2 c = search rules
+same_length_2 : tie.Need-shape_of-numbers-then-rank-part
+same_length_2 c = search rules
 
-returns-3 : tie.Need-returns-3
-returns-3 c = put_as (sym (link c.before.before.before)) c.before.put-link.ensures
+returns_3 : tie.Need-returns-then-rank-part
+returns_3 c = put_as (sym (link c.before.before.before)) c.put_link.ensures
 
-returns-4 : tie.Need-returns-4
-returns-4 c = rw (no-link c) (nothing _ _)
+returns_4 : tie.Need-returns-else-rank-part
+returns_4 c = rw (no_link c) (nothing _ _)
 
-pub put-part-spec : {M : Type 1} → statement M
-put-part-spec =
+pub put_part_spec : {M : Type 1} → statement M
+put_part_spec =
     tie.close
     (tie.spec
-    rank-requires
-    put-bits-requires
-    put-link-requires
+    rank_requires
+    put_bits_requires
+    put_link_requires
     returns
     same_length
-    returns-2
-    same-length-2
-    returns-3
-    returns-4)
+    returns_2
+    same_length_2
+    returns_3
+    returns_4)

@@ -7,90 +7,90 @@ use Rattle.cnf.proofs.Runs.{put_as}
 use Rattle.cnf.proofs.literal.put_side.Statement.{statement}
 use Rattle.cnf.proofs.literal.put_side.Tie as tie
 
-variable-requires : tie.Need-variable-requires
-variable-requires c κs = omega arith
+variable_requires : tie.Need-variable-left-requires
+variable_requires c κs = omega arith
 
-variable-requires-2 : tie.Need-variable-requires-2
-variable-requires-2 c κs = omega arith
+variable_requires_2 : tie.Need-variable-right-requires
+variable_requires_2 c κs = omega arith
 
-add-fresh-variable : tie.Need-overflow-add-fresh-variable
-add-fresh-variable c = omega arith
+add_fresh_variable : tie.Need-overflow_add-literal
+add_fresh_variable c = omega arith
 
-fresh-variable-requires : tie.Need-fresh-variable-requires
-fresh-variable-requires c κs = omega arith
+fresh_variable_requires : tie.Need-fresh_variable-d-requires
+fresh_variable_requires c κs = omega arith
 
-put-three-requires : tie.Need-put-three-requires
-put-three-requires c κs = omega arith
+put_three_requires : tie.Need-put_three-requires
+put_three_requires c κs = omega arith
 
-put-three-requires-2 : tie.Need-put-three-requires-2
-put-three-requires-2 c κs = omega arith
+put_three_requires_2 : tie.Need-put_three-requires-else-side-eq0
+put_three_requires_2 c κs = omega arith
 
-fresh-variable-requires-2 : tie.Need-fresh-variable-requires-2
-fresh-variable-requires-2 c κs = omega arith
+fresh_variable_requires_2 : tie.Need-fresh_variable-e-requires
+fresh_variable_requires_2 c κs = omega arith
 
-put-three-requires-3 : tie.Need-put-three-requires-3
-put-three-requires-3 c κs = omega arith
+put_three_requires_3 : tie.Need-put_three-requires-then-side-eq0-2
+put_three_requires_3 c κs = omega arith
 
-put-three-requires-4 : tie.Need-put-three-requires-4
-put-three-requires-4 c κs = omega arith
+put_three_requires_4 : tie.Need-put_three-requires-else-side-eq0-2
+put_three_requires_4 c κs = omega arith
 
-same_length : tie.Need-same-length
-same_length c = c.before.put_three.auto.1.1.1.1.1.0
+same_length : tie.Need-shape_of-numbers-then-side-eq0
+same_length c = c.put_three.auto.numbers
 
 -- the two tests, seen from each end
-returns : tie.Need-returns
+returns : tie.Need-returns-then-side-eq0
 returns c =
-    let side : tie.Then2 = c.before.before.before in
-    let equal : tie.Then1 = side.before.before.before in
-    put_as (rw (equal.if1.true, side.if2.true) (cc)) c.before.put_three.ensures
+    let side : tie.Then-side-eq0 = c.before.before.before in
+    let equal : tie.Then-literal-eq-EQUAL = side.before.before.before in
+    put_as (rw (equal.if1.true, side.if2.true) (cc)) c.put_three.ensures
 
-same-length-2 : tie.Need-same-length-2
-same-length-2 c = c.before.put-three2.auto.1.1.1.1.1.0
+same_length_2 : tie.Need-shape_of-numbers-else-side-eq0
+same_length_2 c = c.put_three-else-side-eq0.auto.numbers
 
-returns-2 : tie.Need-returns-2
-returns-2 c =
-    let side : tie.Else2 = c.before.before.before in
-    let equal : tie.Then1 = side.before.before.before in
+returns_2 : tie.Need-returns-else-side-eq0
+returns_2 c =
+    let side : tie.Else-side-eq0 = c.before.before.before in
+    let equal : tie.Then-literal-eq-EQUAL = side.before.before.before in
     let second : equal.before.before.before.before.args.side ≡ 1 = omega arith in
-    put_as (rw (equal.if1.true, second) (cc)) c.before.put-three2.ensures
+    put_as (rw (equal.if1.true, second) (cc)) c.put_three-else-side-eq0.ensures
 
-same-length-3 : tie.Need-same-length-3
-same-length-3 c = c.before.put-three3.auto.1.1.1.1.1.0
+same_length_3 : tie.Need-shape_of-numbers-then-side-eq0-2
+same_length_3 c = c.put_three-then-side-eq0-2.auto.numbers
 
-returns-3 : tie.Need-returns-3
-returns-3 c =
-    let side : tie.Then3 = c.before.before.before in
-    let other : tie.Else1 = side.before.before in
-    put_as (rw (ne_eqb _ _ other.if1.false, side.if3.true) (cc)) c.before.put-three3.ensures
+returns_3 : tie.Need-returns-then-side-eq0-2
+returns_3 c =
+    let side : tie.Then-side-eq0-2 = c.before.before.before in
+    let other : tie.Else-literal-eq-EQUAL = side.before.before in
+    put_as (rw (ne_eqb _ _ other.if1.false, side.if3.true) (cc)) c.put_three-then-side-eq0-2.ensures
 
-same-length-4 : tie.Need-same-length-4
-same-length-4 c = c.before.put-three4.auto.1.1.1.1.1.0
+same_length_4 : tie.Need-shape_of-numbers-else-side-eq0-2
+same_length_4 c = c.put_three-else-side-eq0-2.auto.numbers
 
-returns-4 : tie.Need-returns-4
-returns-4 c =
-    let side : tie.Else3 = c.before.before.before in
-    let other : tie.Else1 = side.before.before in
+returns_4 : tie.Need-returns-else-side-eq0-2
+returns_4 c =
+    let side : tie.Else-side-eq0-2 = c.before.before.before in
+    let other : tie.Else-literal-eq-EQUAL = side.before.before in
     let second : other.before.before.before.before.args.side ≡ 1 = omega arith in
-    put_as (rw (ne_eqb _ _ other.if1.false, second) (cc)) c.before.put-three4.ensures
+    put_as (rw (ne_eqb _ _ other.if1.false, second) (cc)) c.put_three-else-side-eq0-2.ensures
 
-pub put-side-spec : {M : Type 1} → statement M
-put-side-spec =
+pub put_side_spec : {M : Type 1} → statement M
+put_side_spec =
     tie.close
     (tie.spec
-    variable-requires
-    variable-requires-2
-    add-fresh-variable
-    fresh-variable-requires
-    put-three-requires
-    put-three-requires-2
-    fresh-variable-requires-2
-    put-three-requires-3
-    put-three-requires-4
+    variable_requires
+    variable_requires_2
+    add_fresh_variable
+    fresh_variable_requires
+    put_three_requires
+    put_three_requires_2
+    fresh_variable_requires_2
+    put_three_requires_3
+    put_three_requires_4
     same_length
     returns
-    same-length-2
-    returns-2
-    same-length-3
-    returns-3
-    same-length-4
-    returns-4)
+    same_length_2
+    returns_2
+    same_length_3
+    returns_3
+    same_length_4
+    returns_4)

@@ -10,17 +10,17 @@ use Rattle.cnf.proofs.numbers.variable.Tie as tie
 product : (c : tie.Start) → c.args.width * c.args.term ≤ 16384
 product c = mul-le-mul {n₂ = 64} {m₂ = 256} (omega arith) (omega arith)
 
-mul-result : tie.Need-overflow-mul-result
-mul-result c = omega (arith, product c)
+mul_result : tie.Need-overflow_mul-result
+mul_result c = omega (arith, product c)
 
-add-result : tie.Need-overflow-add-result
-add-result c = omega (arith, product c)
+add_result : tie.Need-overflow_add-result
+add_result c = omega (arith, product c)
 
-add-result-2 : tie.Need-overflow-add-result-2
-add-result-2 c = omega (arith, product c)
+add_result_2 : tie.Need-overflow_add-result-2
+add_result_2 c = omega (arith, product c)
 
 returns : tie.Need-returns
 returns c = (refl, omega (arith, product c))
 
-pub variable-spec : {M : Type 1} → statement M
-variable-spec = tie.close (tie.spec mul-result add-result add-result-2 returns)
+pub variable_spec : {M : Type 1} → statement M
+variable_spec = tie.close (tie.spec mul_result add_result add_result_2 returns)

@@ -16,117 +16,117 @@ use Rattle.model.proofs.Gathering.{Gathered, runs_long, gathered_none, gathered_
 use Rattle.model.proofs.cells.list_cells.Statement.{statement}
 use Rattle.model.proofs.cells.list_cells.Tie as tie
 
-abbrev invariant-loop : tie.invariant-loop
-invariant-loop values truths edges ways sources count arrays array indices₀ cells₀ used₀ k₀ indices cells used k =
+abbrev invariant_loop : tie.invariant-loop-k
+invariant_loop values truths edges ways sources count arrays array indices₀ cells₀ used₀ k₀ indices cells used k =
     (k ≤ count) × Gathered (open_to values truths edges ways) (sources_of values sources count) arrays array indices₀ cells₀ indices cells used k
 
-abbrev decreases-loop : tie.decreases-loop
-decreases-loop values truths edges ways sources count arrays array indices₀ cells₀ used₀ k₀ indices cells used k =
+abbrev decreases_loop : tie.decreases-loop-k
+decreases_loop values truths edges ways sources count arrays array indices₀ cells₀ used₀ k₀ indices cells used k =
     count - k
 
 -- the edges and the sources that are lent
-abbrev edges-to : tie.Start invariant-loop decreases-loop → Edges
-edges-to s = open_to s.args.values.now s.args.truths.now s.args.edges.now s.args.ways
+abbrev edges_to : tie.Start invariant_loop decreases_loop → Edges
+edges_to s = open_to s.args.values.now s.args.truths.now s.args.edges.now s.args.ways
 
-abbrev lent-to : tie.Start invariant-loop decreases-loop → Sources
-lent-to s = sources_of s.args.values.now s.args.sources.now s.args.count
+abbrev lent_to : tie.Start invariant_loop decreases_loop → Sources
+lent_to s = sources_of s.args.values.now s.args.sources.now s.args.count
 
 -- the loop's head, seen from the row
-abbrev head : tie.After-reached-from invariant-loop decreases-loop → tie.At-loop invariant-loop decreases-loop
-head r = r.before.before.before.before.before
+abbrev head : tie.After-reached_from-row invariant_loop decreases_loop → tie.At-loop-k invariant_loop decreases_loop
+head r = r.before.before.before.before.before.before
 
 -- whether the source reaches the array term is seen in the row
-reached : (r : tie.After-reached-from invariant-loop decreases-loop)
-    → reaches_in (edges-to (head r).before) (lent-to (head r).before) (head r).before.args.arrays (head r).before.args.array (head r).loop.k ≡ eqb (bit r.reached-from.result r.before.origin-of.result) 1
+reached : (r : tie.After-reached_from-row invariant_loop decreases_loop)
+    → reaches_in (edges_to (head r).before) (lent_to (head r).before) (head r).args.arrays (head r).args.array (head r).loop-k.k ≡ eqb (bit r.reached_from-row.result r.origin_of-origin.result) 1
 reached r =
-    let s = (head r).before in
-    let k = (head r).loop.k in
-    let row = r.reached-from.result in
-    let inside = r.before.before.before.before.loop-test.true in
+    let s = head r in
+    let k = (head r).loop-k.k in
+    let row = r.reached_from-row.result in
+    let inside = r.loop-k-test.true in
     sym
-    (stands_reached (edges-to s) s.args.arrays (value_at (lent-to s) k) (lent_ends s.pre.0.lent s.args.values.now s.args.truths.now) s.args.array (origin_at (lent-to s) k) row s.pre.1 (s.pre.0.origin k inside)
-    (subst (λ (x : ℕ). RowOf (edges-to s) s.args.arrays x s.args.array row) r.before.before.index-value.ensures r.reached-from.ensures))
-    ∙ ap (λ (origin : ℕ). eqb (bit row origin) 1) (sym r.before.origin-of.ensures)
+    (stands_reached (edges_to s.before) s.args.arrays (value_at (lent_to s.before) k) (lent_ends s.requires.0.lent s.args.values.now s.args.truths.now) s.args.array (origin_at (lent_to s.before) k) row s.requires.1 (s.requires.0.origin k inside)
+    (subst (λ (x : ℕ). RowOf (edges_to s.before) s.args.arrays x s.args.array row) r.index_value-x.ensures r.reached_from-row.ensures))
+    ∙ ap (λ (origin : ℕ). eqb (bit row origin) 1) (sym r.origin_of-origin.ensures)
 
-loop-holds : tie.Need-loop-init invariant-loop decreases-loop
-loop-holds c = (omega arith, gathered_none (edges-to c) (lent-to c) c.args.arrays c.args.array c.args.indices.now c.args.cells.now)
+loop_holds : tie.Need-loop-k-init invariant_loop decreases_loop
+loop_holds c = (omega arith, gathered_none (edges_to c) (lent_to c) c.args.arrays c.args.array c.args.indices.now c.args.cells.now)
 
-mul-source : tie.Need-overflow-mul-source invariant-loop decreases-loop
-mul-source c = omega (arith, c.before.before.requires.0.sources)
+mul_source : tie.Need-offset_bounds-sources-k invariant_loop decreases_loop
+mul_source c = omega (arith, c.requires.0.sources)
 
-element-copy-out-source : tie.Need-element-copy-out-source invariant-loop decreases-loop
-element-copy-out-source c = omega (arith, c.before.before.requires.0.sources)
+element_copy_out_source : tie.Need-bounds-sources-k invariant_loop decreases_loop
+element_copy_out_source c = omega (arith, c.requires.0.sources)
 
-index-value-requires : tie.Need-index-value-requires invariant-loop decreases-loop
-index-value-requires c κs = tt
+index_value_requires : tie.Need-index_value-x-requires invariant_loop decreases_loop
+index_value_requires c κs = tt
 
-origin-of-requires : tie.Need-origin-of-requires invariant-loop decreases-loop
-origin-of-requires c κs = tt
+origin_of_requires : tie.Need-origin_of-origin-requires invariant_loop decreases_loop
+origin_of_requires c κs = tt
 
-reached-from-requires : tie.Need-reached-from-requires invariant-loop decreases-loop
-reached-from-requires c κs = let s = c.before.before.before.before.before in (s.requires.0.lent, s.requires.1)
+reached_from_requires : tie.Need-reached_from-row-requires invariant_loop decreases_loop
+reached_from_requires c κs = let s = c in (s.requires.0.lent, s.requires.1)
 
-shr-shifted : tie.Need-overflow-shr-shifted invariant-loop decreases-loop
-shr-shifted c =
-    let within = (head c).before.requires.0 in
-    omega (arith, c.before.origin-of.ensures, within.origin (head c).loop.k c.before.before.before.before.loop-test.true, within.lent.arrays)
+shr_shifted : tie.Need-overflow_shr-shifted invariant_loop decreases_loop
+shr_shifted c =
+    let within = (head c).requires.0 in
+    omega (arith, c.origin_of-origin.ensures, within.origin (head c).loop-k.k c.loop-k-test.true, within.lent.arrays)
 
-assigned-value-requires : tie.Need-assigned-value-requires invariant-loop decreases-loop
-assigned-value-requires c κs = tt
+assigned_value_requires : tie.Need-assigned_value-value-requires invariant_loop decreases_loop
+assigned_value_requires c κs = tt
 
-place-cell-requires : tie.Need-place-cell-requires invariant-loop decreases-loop
-place-cell-requires c κs =
+place_cell_requires : tie.Need-place_cell-used-requires invariant_loop decreases_loop
+place_cell_requires c κs =
     let l = head c.before.before.before.before in
-    let s = l.before in
-    let known = l.loop.inv.1 in
-    let inside : l.loop.used < 304 = omega (arith, known.few, s.pre.0.sources, c.before.before.before.before.before.before.before.before.loop-test.true) in
+    let s = l in
+    let known = l.loop-k.invariant.1 in
+    let inside : l.loop-k.used < 304 = omega (arith, known.few, s.requires.0.sources, c.loop-k-test.true) in
     let long = runs_long known.listing (omega arith) (omega arith) in
-    (inside, long.0 ∙ s.pre.2, long.1 ∙ s.pre.3)
+    (inside, long.0 ∙ s.requires.2, long.1 ∙ s.requires.3)
 
-add-k : tie.Need-overflow-add-k invariant-loop decreases-loop
-add-k c = omega arith
+add_k : tie.Need-overflow_add-k invariant_loop decreases_loop
+add_k c = omega arith
 
-loop-less : tie.Need-loop-smaller invariant-loop decreases-loop
-loop-less c = omega arith
+loop_less : tie.Need-loop-k-smaller invariant_loop decreases_loop
+loop_less c = omega arith
 
-loop-again : tie.Need-loop-preserved invariant-loop decreases-loop
-loop-again c =
-    let r = c.before in
-    let l = head r in
-    let known = l.loop.inv.1 in
-    let inside = r.before.before.before.before.loop-test.true in
-    let shown = bit r.reached-from.result r.before.origin-of.result in (
+loop_again : tie.Need-loop-k-preserved invariant_loop decreases_loop
+loop_again c =
+    let r = c in
+    let l = head r.before in
+    let known = l.loop-k.invariant.1 in
+    let inside = r.loop-k-test.true in
+    let shown = bit r.reached_from-row.result r.origin_of-origin.result in (
       omega arith,
       ⊎_elim
           (λ w.
           gathered_same
-          (gathered_next known inside (reached r ∙ eq-eqb shown 1 w.0.taken)
-          (subst (λ (cell : Cell). Places cell l.loop.indices w.4.last.0 l.loop.cells w.4.last.1.0 l.loop.used w.4.result)
-          (λ i. record { index = r.before.before.index-value.ensures i; value = w.1.ensures i }) w.4.ensures))
-          w.5 w.6 w.7)
-          (λ w. gathered_same (gathered_past known inside (reached r ∙ ne_eqb shown 1 w.0.left)) w.1 w.2 w.3)
-          c.if1.branch,
+          (gathered_next known inside (reached r.before ∙ eq-eqb shown 1 w.if-shifted-eq1.true)
+          (subst (λ (cell : Cell). Places cell l.loop-k.indices w.place_cell-used.new.indices l.loop-k.cells w.place_cell-used.new.cells l.loop-k.used w.place_cell-used.result)
+          (λ i. record { index = r.index_value-x.ensures i; value = w.assigned_value-value.ensures i }) w.place_cell-used.ensures))
+          w.indices-is w.cells-is w.used-is)
+          (λ w. gathered_same (gathered_past known inside (reached r.before ∙ ne_eqb shown 1 w.if-shifted-eq1.false)) w.indices-is w.cells-is w.used-is)
+          c.if-shifted-eq1.branch-raw,
     )
 
-returns : tie.Need-returns invariant-loop decreases-loop
-returns c = gathered_all c.before.loop.invariant.1 (omega arith)
+returns : tie.Need-returns invariant_loop decreases_loop
+returns c = gathered_all c.loop-k.invariant.1 (omega arith)
 
-pub list-cells-spec : {M : Type 1} → statement M
-list-cells-spec =
+pub list_cells_spec : {M : Type 1} → statement M
+list_cells_spec =
     tie.close
     (tie.spec
-    invariant-loop
-    decreases-loop
-    loop-holds
-    mul-source
-    element-copy-out-source
-    index-value-requires
-    origin-of-requires
-    reached-from-requires
-    shr-shifted
-    assigned-value-requires
-    place-cell-requires
-    add-k
-    loop-less
-    loop-again
+    invariant_loop
+    decreases_loop
+    loop_holds
+    mul_source
+    element_copy_out_source
+    index_value_requires
+    origin_of_requires
+    reached_from_requires
+    shr_shifted
+    assigned_value_requires
+    place_cell_requires
+    add_k
+    loop_less
+    loop_again
     returns)

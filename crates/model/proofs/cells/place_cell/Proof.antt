@@ -16,42 +16,42 @@ abbrev given : tie.Start → Cell
 given s = record { index = s.args.x; value = s.args.value }
 
 -- its place is among the cells or at their end
-inside : (p : tie.After-place-of) → p.place_of.result ≤ p.before.before.args.used
+inside : (p : tie.After-place_of-at) → p.place_of-at.result ≤ p.args.used
 inside p =
-    let s = p.before.before in
+    let s = p in
     let run = take s.args.used s.args.indices.now in
-    omega (arith, p.place_of.ensures, place_most s.args.x run, length-take-le s.args.used s.args.indices.now (omega arith))
+    omega (arith, p.place_of-at.ensures, place_most s.args.x run, length-take-le s.args.used s.args.indices.now (omega arith))
 
-place-of-requires : tie.Need-place-of-requires
-place-of-requires c κs = search rules
+place_of_requires : tie.Need-place_of-at-requires
+place_of_requires c κs = search rules
 
-stands-requires : tie.Need-stands-requires
-stands-requires c κs = search rules
+stands_requires : tie.Need-stands-requires
+stands_requires c κs = search rules
 
-returns : tie.Need-returns
+returns : tie.Need-returns-then-stands
 returns c = λ listed indices₀ values₀ known.
-    let p = c.before.before.before in
-    placed_none (given p.before.before) known p.place_of.result p.place_of.ensures (sym c.before.stands.ensures ∙ c.if1.true)
+    let p = c in
+    placed_none (given p.before.before.before) known p.place_of-at.result p.place_of-at.ensures (sym c.stands.ensures ∙ c.if-stands.true)
 
-insert-requires : tie.Need-insert-requires
-insert-requires c κs = let p = c.before.before.before.before in (inside p, omega arith)
+insert_requires : tie.Need-insert-requires
+insert_requires c κs = let p = c in (inside p.before.before.before, omega arith)
 
-insert-requires-2 : tie.Need-insert-requires-2
-insert-requires-2 c κs = let p = c.before.before.before.before.before.before in (inside p, omega arith)
+insert_requires_2 : tie.Need-insert-requires-2
+insert_requires_2 c κs = let p = c in (inside p.before.before.before.before.before, omega arith)
 
-add-result : tie.Need-overflow-add-result
-add-result c = search rules
+add_result : tie.Need-overflow_add-result
+add_result c = search rules
 
-returns-2 : tie.Need-returns-2
-returns-2 c = λ listed indices₀ values₀ known.
-    let e = c.before.before.before.before in
-    let p = e.before.before.before in
-    let s = p.before.before in
+returns_2 : tie.Need-returns
+returns_2 c = λ listed indices₀ values₀ known.
+    let e = c in
+    let p = e in
+    let s = p in
     listing_same
-    (placed_one (given s) known p.place_of.result p.place_of.ensures (sym e.before.stands.ensures ∙ e.if1.false) (omega arith) (omega arith))
-    c.before.before.insert.ensures c.insert2.ensures refl
+    (placed_one (given s.before.before.before.before.before.before.before) known p.place_of-at.result p.place_of-at.ensures (sym e.stands.ensures ∙ e.if-stands.false) (omega arith) (omega arith))
+    c.insert.ensures c.insert-2.ensures refl
 
-pub place-cell-spec : {M : Type 1} → statement M
-place-cell-spec =
+pub place_cell_spec : {M : Type 1} → statement M
+place_cell_spec =
     tie.close
-    (tie.spec place-of-requires stands-requires returns insert-requires insert-requires-2 add-result returns-2)
+    (tie.spec place_of_requires stands_requires returns insert_requires insert_requires_2 add_result returns_2)

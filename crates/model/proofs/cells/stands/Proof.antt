@@ -12,23 +12,23 @@ use Rattle.model.proofs.cells.stands.Tie as tie
 long : (s : tie.Start) → length (take s.args.used s.args.indices.now) ≡ s.args.used
 long s = length-take-le s.args.used s.args.indices.now (omega arith)
 
-returns : tie.Need-returns
+returns : tie.Need-returns-then-used-at
 returns c =
-    let s = c.before in
-    sym (stands_past s.args.x s.args.at (take s.args.used s.args.indices.now) (omega (arith, long s)))
+    let s = c in
+    sym (stands_past s.args.x s.args.at (take s.args.used s.args.indices.now) (omega (arith, long s.before)))
 
-mul-index : tie.Need-overflow-mul-index
-mul-index c = search rules
+mul_index : tie.Need-offset_bounds-indices-at
+mul_index c = search rules
 
-element-copy-out-index : tie.Need-element-copy-out-index
-element-copy-out-index c = search rules
+element_copy_out_index : tie.Need-bounds-indices-at
+element_copy_out_index c = search rules
 
-returns-2 : tie.Need-returns-2
-returns-2 c =
-    let s = c.before.before in
+returns_2 : tie.Need-returns
+returns_2 c =
+    let s = c in
     sym
-    (stands_inside s.args.x s.args.at (take s.args.used s.args.indices.now) (omega (arith, long s))
+    (stands_inside s.args.x s.args.at (take s.args.used s.args.indices.now) (omega (arith, long s.before.before.before))
     ∙ rw (get_or-take s.args.used s.args.indices.now s.args.at 0 (omega arith)))
 
-pub stands-spec : {M : Type 1} → statement M
-stands-spec = tie.close (tie.spec returns mul-index element-copy-out-index returns-2)
+pub stands_spec : {M : Type 1} → statement M
+stands_spec = tie.close (tie.spec returns mul_index element_copy_out_index returns_2)

@@ -8,11 +8,7 @@ use mir.Val.{SFits, to_z}
 use mir.ValLaws.{to_z_pos, to_z-of_z}
 use lib.IntN.{ℤ, pos, neg_ℤ, ◌-ℤ◌, +ℤ_idl}
 use borrow.Author.Rules.{rules}
-use Rattle.cnf.proofs.numbers.negative.Statement.{statement}
-use Rattle.cnf.proofs.numbers.negative.Tie as tie
-
-cast-result : tie.Need-overflow-cast-result
-cast-result c = search rules
+use Rattle.cnf.proofs.numbers.negative.Goals as goal
 
 negative_fits : (n : ℕ) → n < 2147483648 → SFits w32 (neg_ℤ (pos n))
 negative_fits zero h = record { sfits = omega arith }
@@ -22,14 +18,11 @@ negated_fits : (n : ℕ) → n < 2147483648 → SFits w32 (pos 0 -ℤ to_z w32 n
 negated_fits n h =
     subst (λ (z : ℤ). SFits w32 (pos 0 -ℤ z)) (sym (to_z_pos w32 n h)) (subst (SFits w32) (sym (+ℤ_idl (neg_ℤ (pos n)))) (negative_fits n h))
 
-sub-result : tie.Need-overflow-sub-result
-sub-result c = negated_fits c.args.variable c.requires
+pub overflow_sub-result : goal.overflow_sub-result
+overflow_sub-result c = negated_fits c.args.variable c.requires
 
-returns : tie.Need-returns
+pub returns : goal.returns
 returns c =
     to_z-of_z w32 _ (negated_fits c.args.variable c.requires)
     ∙ ap (λ (z : ℤ). pos 0 -ℤ z) (to_z_pos w32 c.args.variable c.requires)
     ∙ +ℤ_idl _
-
-pub negative-spec : {M : Type 1} → statement M
-negative-spec = tie.close (tie.spec cast-result sub-result returns)

@@ -1,0 +1,19 @@
+-- `cnf::literal::freshes` meets its contract, as `rank` does.
+-- Assumes nothing.
+use native.Mathlib.Omega.{arith}
+use mathlib.Core.Path.{sym, ap}
+use Rattle.paper.specs.Clauses.{Gadget}
+use Rattle.cnf.proofs.Pieces.{with_e}
+use Rattle.cnf.proofs.literal.freshes.Goals as goal
+
+pub returns-in-33 : goal.returns-in-33
+returns-in-33 c = (λ n left right. rw c.in-33.is, omega arith)
+
+pub returns-in-35 : goal.returns-in-35
+returns-in-35 c = (λ n left right. rw c.in-35.is, omega arith)
+
+pub returns-in-36 : goal.returns-in-36
+returns-in-36 c = (λ n left right. rw c.in-36.is, omega arith)
+
+pub returns-in_default : goal.returns-in_default
+returns-in_default c = (λ n left right. sym (ap (λ (one : Gadget). one.freshes) (with_e c.args.tag c.in_default.in_default-own.rest.0.0.1 c.in_default.in_default-own.rest.0.1 c.in_default.in_default-own.rest.1 c.args.width n left right)), omega arith)
