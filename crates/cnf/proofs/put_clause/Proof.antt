@@ -57,9 +57,9 @@ abbrev placed : tie.Then-left-clauses invariant_loop decreases_loop → tie.Afte
 placed c = c.before.before
 
 here : (c : tie.Then-left-clauses invariant_loop decreases_loop)
-    → let start = (head (placed c)).before in
+    → let start = head (placed c) in
     let left = (head (placed c)).loop-k.left in
-    (asked start ≡ side (sizes start) (placed c).literal_at-literal.result (left / 2) (left % 2)) × (left / 2 < start.args.width)
+    (asked start.before ≡ side (sizes start.before) (placed c).literal_at-literal.result (left / 2) (left % 2)) × (left / 2 < start.args.width)
 here c =
     let start = head (placed c) in
     let loop = (head (placed c)).loop-k in
@@ -116,7 +116,7 @@ loop_again c =
     let one = c in
     let start = head one.before.before.before in
     let loop = (head one.before.before.before).loop-k in
-    let freshes = of_literal start.args.width (lent start.before) loop.k loop.fresh (λ one. one.freshes-fresh) (own_tag one.before.before.before) c.freshes-fresh.ensures.0 in (
+    let freshes = of_literal start.args.width (lent start.before) loop.k loop.fresh (λ one. one.freshes) (own_tag one.before.before.before) c.freshes-fresh.ensures.0 in (
       sought_later start.args.width (lent start.before) start.args.n loop.fresh loop.k loop.left one.loop-k-test.true loop.invariant.0 _ _ (own_count c.before.before) c.if-left-clauses.false freshes,
       loop.invariant.1,
       omega arith,

@@ -54,7 +54,7 @@ put_side_requires_2 c κs =
     let inside = first c in
     let at = inside in
     let start = at in
-    (start.requires.0, start.requires.1, inside.loop-bit-test.taken, omega arith, omega (arith, one_length at.before.before.before 1 (omega arith), room_for (one at.before.before.before 1) _ (further (one at.before.before.before 0) (ahead inside.before.before) (first c).put_side-next.ensures) start.requires.2))
+    (start.requires.0, start.requires.1, inside.loop-bit-test.true, omega arith, omega (arith, one_length at.before.before.before 1 (omega arith), room_for (one at.before.before.before 1) _ (further (one at.before.before.before 0) (ahead inside.before.before) (first c).put_side-next.ensures) start.requires.2))
 
 add_bit : tie.Need-overflow_add-bit invariant_loop decreases_loop
 add_bit c = omega arith

@@ -42,7 +42,7 @@ returns : tie.Need-returns-then-side-eq0
 returns c =
     let side : tie.Then-side-eq0 = c.before.before.before in
     let equal : tie.Then-literal-eq-EQUAL = side.before.before.before in
-    put_as (rw (equal.if1.true, side.if2.true) (cc)) c.put_three.ensures
+    put_as (rw (equal.if-literal-eq-EQUAL.true, side.if-side-eq0.true) (cc)) c.put_three.ensures
 
 same_length_2 : tie.Need-shape_of-numbers-else-side-eq0
 same_length_2 c = c.put_three-else-side-eq0.auto.numbers
@@ -51,8 +51,8 @@ returns_2 : tie.Need-returns-else-side-eq0
 returns_2 c =
     let side : tie.Else-side-eq0 = c.before.before.before in
     let equal : tie.Then-literal-eq-EQUAL = side.before.before.before in
-    let second : equal.before.before.before.before.args.side ≡ 1 = omega arith in
-    put_as (rw (equal.if1.true, second) (cc)) c.put_three-else-side-eq0.ensures
+    let second : equal.args.side ≡ 1 = omega arith in
+    put_as (rw (equal.if-literal-eq-EQUAL.true, second) (cc)) c.put_three-else-side-eq0.ensures
 
 same_length_3 : tie.Need-shape_of-numbers-then-side-eq0-2
 same_length_3 c = c.put_three-then-side-eq0-2.auto.numbers
@@ -61,7 +61,7 @@ returns_3 : tie.Need-returns-then-side-eq0-2
 returns_3 c =
     let side : tie.Then-side-eq0-2 = c.before.before.before in
     let other : tie.Else-literal-eq-EQUAL = side.before.before in
-    put_as (rw (ne_eqb _ _ other.if1.false, side.if3.true) (cc)) c.put_three-then-side-eq0-2.ensures
+    put_as (rw (ne_eqb _ _ other.if-literal-eq-EQUAL.false, side.if-side-eq0-2.true) (cc)) c.put_three-then-side-eq0-2.ensures
 
 same_length_4 : tie.Need-shape_of-numbers-else-side-eq0-2
 same_length_4 c = c.put_three-else-side-eq0-2.auto.numbers
@@ -70,8 +70,8 @@ returns_4 : tie.Need-returns-else-side-eq0-2
 returns_4 c =
     let side : tie.Else-side-eq0-2 = c.before.before.before in
     let other : tie.Else-literal-eq-EQUAL = side.before.before in
-    let second : other.before.before.before.before.args.side ≡ 1 = omega arith in
-    put_as (rw (ne_eqb _ _ other.if1.false, second) (cc)) c.put_three-else-side-eq0-2.ensures
+    let second : other.args.side ≡ 1 = omega arith in
+    put_as (rw (ne_eqb _ _ other.if-literal-eq-EQUAL.false, second) (cc)) c.put_three-else-side-eq0-2.ensures
 
 pub put_side_spec : {M : Type 1} → statement M
 put_side_spec =

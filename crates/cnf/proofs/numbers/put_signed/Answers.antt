@@ -16,7 +16,7 @@ one : (run : List ℤ) (at : ℕ) {x y : ℤ} → x ≡ y → Put run (set run a
 one run at same = rw same (record { stored = refl; passed = refl })
 
 pub returns-then-as_it_is : goal.returns-then-as_it_is
-returns-then-as_it_is c = rw c.if-as_it_is.true (one _ _ (to_z-of_z w32 _ (record { sfits = c.positive.type-inv }) ∙ c.positive.ensures))
+returns-then-as_it_is c = rw c.if-as_it_is.true (one _ _ (to_z-of_z w32 _ (record { sfits = c.positive.type_inv }) ∙ c.positive.ensures))
 
 pub returns-else-as_it_is : goal.returns-else-as_it_is
-returns-else-as_it_is c = rw c.if-as_it_is.false (one _ _ (to_z-of_z w32 _ (record { sfits = c.negative.type-inv }) ∙ c.negative.ensures))
+returns-else-as_it_is c = rw c.if-as_it_is.false (one _ _ (to_z-of_z w32 _ (record { sfits = c.negative.type_inv }) ∙ c.negative.ensures))

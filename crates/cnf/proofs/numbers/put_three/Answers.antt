@@ -12,7 +12,7 @@ returns c =
     let two = three in
     let one = two in
     let args = one.args in
-    let first = further _ (begun args.numbers-1.now args.at _) one.put_signed-at.ensures in
+    let first = further _ (begun args.numbers.now args.at _) one.put_signed-at.ensures in
     let second = further _ first two.put_signed-at-2.ensures in
     let third = further _ second three.put_signed-at-3.ensures in
     done (further _ third four.put_signed.ensures)
