@@ -12,97 +12,97 @@ use Rattle.checker.proofs.listing.list.Statement.{statement}
 use Rattle.checker.proofs.listing.list.Tie as tie
 
 -- the told verdict and the entry, seen from behind the cells that were made
-abbrev told : tie.After-list-cells → tie.After-enum-told2
+abbrev told : tie.After-list_cells-used → tie.In-Nothing
 told l = l.before.before.before.before.before.before.before
 
-abbrev start : tie.After-list-cells → tie.Start
-start l = (told l).before.before.before.before
+abbrev start : tie.After-list_cells-used → tie.Start
+start l = (told l).before.before.before
 
 -- the cells are few enough for the runs that they were made in
-few-cells : (l : tie.After-list-cells) → l.list-cells.result ≤ 304
-few-cells l = lists_few (start l).requires.1.1 _ [] [] (ap found_of (told l).enum-told2.given.1) l.before.before.before.if1.false l.list-cells.ensures
+few_cells : (l : tie.After-list_cells-used) → l.list_cells-used.result ≤ 304
+few_cells l = lists_few (start l).requires.1.1 _ [] [] (ap found_of (told l).in-Nothing.is) l.if-arrays-array.false l.list_cells-used.ensures
 
-enum_told : tie.Need-enum-told
+enum_told : tie.Need-enum_told-1
 enum_told c = search rules
 
-enum-told-2 : tie.Need-enum-told-2
-enum-told-2 c = search rules
+enum_told_2 : tie.Need-enum_told-in-Nothing
+enum_told_2 c = search rules
 
-cast-ways : tie.Need-overflow-cast-ways
-cast-ways c = search rules
+cast_ways : tie.Need-overflow_cast-ways
+cast_ways c = search rules
 
-cast-count : tie.Need-overflow-cast-count
-cast-count c = search rules
+cast_count : tie.Need-overflow_cast-count
+cast_count c = search rules
 
-cast-arrays : tie.Need-overflow-cast-arrays
-cast-arrays c = search rules
+cast_arrays : tie.Need-overflow_cast-arrays
+cast_arrays c = search rules
 
-returns : tie.Need-returns
-returns c = λ bytes known. lists_nowhere known.1 _ _ _ (ap found_of c.before.before.before.before.enum-told2.given.1) c.if1.true
+returns : tie.Need-returns-then-arrays-array
+returns c = λ bytes known. lists_nowhere known.1 _ _ _ (ap found_of c.in-Nothing.is) c.if-arrays-array.true
 
-list-cells-requires : tie.Need-list-cells-requires
-list-cells-requires c κs =
-    let e = c.before.before in
-    let known = e.before.before.before.before.before.before.before.before.requires.1.1 in
-    (within known.holds known.graph, e.if1.false, refl, refl)
+list_cells_requires : tie.Need-list_cells-used-requires
+list_cells_requires c κs =
+    let e = c in
+    let known = e.requires.1.1 in
+    (within known.holds known.graph, e.if-arrays-array.false, refl, refl)
 
-returns-2 : tie.Need-returns-2
-returns-2 c = λ bytes known.
-    let l = c.before in
-    lists_short_indices known.1 _ _ _ (ap found_of (told l).enum-told2.given.1) l.before.before.before.if1.false l.list-cells.ensures c.if2.true
+returns_2 : tie.Need-returns-then-indices-used
+returns_2 c = λ bytes known.
+    let l = c in
+    lists_short_indices known.1 _ _ _ (ap found_of (told l.before).in-Nothing.is) l.if-arrays-array.false l.list_cells-used.ensures c.if-indices-used.true
 
-returns-3 : tie.Need-returns-3
-returns-3 c = λ bytes known.
-    let l = c.before.before in
-    lists_short_values known.1 _ _ _ (ap found_of (told l).enum-told2.given.1) l.before.before.before.if1.false l.list-cells.ensures c.if3.true
+returns_3 : tie.Need-returns-then-contents-used
+returns_3 c = λ bytes known.
+    let l = c in
+    lists_short_values known.1 _ _ _ (ap found_of (told l.before.before).in-Nothing.is) l.if-arrays-array.false l.list_cells-used.ensures c.if-contents-used.true
 
-copy-first-requires : tie.Need-copy-first-requires
-copy-first-requires c κs =
-    let e = c.before.before in
-    let l = e.before.before in
-    let few = few-cells l in
-    (few, (runs_long l.list-cells.ensures few few).0, e.before.if2.false)
+copy_first_requires : tie.Need-copy_first-requires
+copy_first_requires c κs =
+    let e = c in
+    let l = e in
+    let few = few_cells l.before.before.before.before in
+    (few, (runs_long l.list_cells-used.ensures few few).0, e.if-indices-used.false)
 
-copy-first-requires-2 : tie.Need-copy-first-requires-2
-copy-first-requires-2 c κs =
-    let e = c.before.before.before.before.before.before.before in
-    let l = e.before.before in
-    let few = few-cells l in
-    (few, (runs_long l.list-cells.ensures few few).1, e.if3.false)
+copy_first_requires_2 : tie.Need-copy_first-requires-in-Nothing
+copy_first_requires_2 c κs =
+    let e = c in
+    let l = e in
+    let few = few_cells l.before.before.before.before.before.before.before.before.before in
+    (few, (runs_long l.list_cells-used.ensures few few).1, e.if-contents-used.false)
 
-returns-4 : tie.Need-returns-4
-returns-4 c = λ bytes known. lists_clash known.1 _ _ _ _ (ap found_of c.enum_told.given.1)
+returns_4 : tie.Need-returns-in-Pair
+returns_4 c = λ bytes known. lists_clash known.1 _ _ _ _ (ap found_of c.in-Pair.is)
 
-same_length : tie.Need-same-length
+same_length : tie.Need-shape_of-indices
 same_length c = search rules
 
-same-length-2 : tie.Need-same-length-2
-same-length-2 c = search rules
+same_length_2 : tie.Need-shape_of-contents
+same_length_2 c = search rules
 
-returns-5 : tie.Need-returns-5
-returns-5 c = λ bytes known.
-    let w = c.before.before in
-    let v = w.before.before.before.before.before in
-    let e = v.before.before.before in
-    let l = e.before.before in
-    lists_cells known.1 _ _ _ (ap found_of (told l).enum-told2.given.1) l.before.before.before.if1.false l.list-cells.ensures _ _ e.before.if2.false e.if3.false v.copy-first.ensures w.copy-first2.ensures
+returns_5 : tie.Need-returns-else-contents-used
+returns_5 c = λ bytes known.
+    let w = c in
+    let v = w in
+    let e = v in
+    let l = e in
+    lists_cells known.1 _ _ _ (ap found_of (told l.before.before.before.before.before.before.before.before.before.before.before.before).in-Nothing.is) l.if-arrays-array.false l.list_cells-used.ensures _ _ e.if-indices-used.false e.if-contents-used.false v.copy_first.ensures w.copy_first-in-Nothing.ensures
 
-pub list-spec : {M : Type 1} → statement M
-list-spec =
+pub list_spec : {M : Type 1} → statement M
+list_spec =
     tie.close
     (tie.spec
     enum_told
-    enum-told-2
-    cast-ways
-    cast-count
-    cast-arrays
+    enum_told_2
+    cast_ways
+    cast_count
+    cast_arrays
     returns
-    list-cells-requires
-    returns-2
-    returns-3
-    copy-first-requires
-    copy-first-requires-2
-    returns-4
+    list_cells_requires
+    returns_2
+    returns_3
+    copy_first_requires
+    copy_first_requires_2
+    returns_4
     same_length
-    same-length-2
-    returns-5)
+    same_length_2
+    returns_5)

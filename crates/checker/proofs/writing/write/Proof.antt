@@ -11,99 +11,99 @@ use Rattle.checker.proofs.Writes.{writes_quiet, writes_short, writes_clauses}
 use Rattle.checker.proofs.writing.write.Statement.{statement}
 use Rattle.checker.proofs.writing.write.Tie as tie
 
-enum_told : tie.Need-enum-told
+enum_told : tie.Need-enum_told-1
 enum_told c = search rules
 
-enum-known-found : tie.Need-enum-known-found
-enum-known-found c = search rules
+enum_known_found : tie.Need-enum_known-found
+enum_known_found c = search rules
 
-pair-literals-requires : tie.Need-pair-literals-requires
-pair-literals-requires c κs =
-    let f = c.before.before in
-    paired f.before.before.requires.1 _ (ap found_of f.found.given.1) _ refl
+pair_literals_requires : tie.Need-pair_literals-count-requires
+pair_literals_requires c κs =
+    let f = c in
+    paired f.requires.1 _ (ap found_of f.in-Pair.is) _ refl
 
 -- the function's entry, seen from behind the literals
-abbrev start : tie.After-pair-literals → tie.Start
-start p = p.before.before.before.before.before
+abbrev start : tie.After-pair_literals-count → tie.Start
+start p = p.before.before.before
 
-counts-requires : tie.Need-counts-requires
-counts-requires c κs = (c.before.pair-literals.ensures.proper.most, omega arith)
+counts_requires : tie.Need-counts-totals-requires
+counts_requires c κs = (c.pair_literals-count.ensures.proper.most, omega arith)
 
-returns : tie.Need-returns
+returns : tie.Need-returns-then-numbers-totals
 returns c = λ bytes known.
-    let n = c.before.before in
-    let p = n.before.before in
-    let counts = (start p).args.counts in
-    writes_short known _ (ap found_of p.before.before.before.found.given.1) p.pair-literals.ensures _ (omega (arith, c.if1.true, n.counts.ensures.1.1 counts.bases counts.booleans))
+    let n = c in
+    let p = n in
+    let counts = (start p.before.before.before.before).args.counts in
+    writes_short known _ (ap found_of p.in-Pair.is) p.pair_literals-count.ensures _ (omega (arith, c.if-numbers-totals.true, n.counts-totals.ensures.1.1 counts.bases counts.booleans))
 
-cast-bases : tie.Need-overflow-cast-bases
-cast-bases c = search rules
+cast_bases : tie.Need-overflow_cast-bases
+cast_bases c = search rules
 
-cast-booleans : tie.Need-overflow-cast-booleans
-cast-booleans c = search rules
+cast_booleans : tie.Need-overflow_cast-booleans
+cast_booleans c = search rules
 
-put-clauses-requires : tie.Need-put-clauses-requires
-put-clauses-requires c κs =
-    let e = c.before.before.before.before in
-    let n = e.before.before in
-    let p = n.before.before in
-    let counts = (start p).args.counts in
-    let held = (start p).requires.1.holds.counts in (
-      p.pair-literals.ensures.proper.most,
+put_clauses_requires : tie.Need-put_clauses-written-requires
+put_clauses_requires c κs =
+    let e = c in
+    let n = e in
+    let p = n in
+    let counts = (start p.before.before.before.before.before.before.before.before).args.counts in
+    let held = (start p.before.before.before.before.before.before.before.before).requires.1.holds.counts in (
+      p.pair_literals-count.ensures.proper.most,
       held.bases_most,
       held.booleans_most,
       omega arith,
-      omega (arith, e.if1.false, n.counts.ensures.1.1 counts.bases counts.booleans),
+      omega (arith, e.if-numbers-totals.false, n.counts-totals.ensures.1.1 counts.bases counts.booleans),
     )
 
-mul-variables : tie.Need-overflow-mul-variables
-mul-variables c = omega (arith, c.before.before.before.before.before.before.before.before.before.before.before.before.before.before.before.requires.1.holds.counts.bases_most)
+mul_variables : tie.Need-overflow_mul-variables
+mul_variables c = omega (arith, c.requires.1.holds.counts.bases_most)
 
-add-variables : tie.Need-overflow-add-variables
-add-variables c =
-    let held = c.before.before.before.before.before.before.before.before.before.before.before.before.before.before.before.requires.1.holds.counts in
+add_variables : tie.Need-overflow_add-variables
+add_variables c =
+    let held = c.requires.1.holds.counts in
     omega (arith, held.bases_most, held.booleans_most)
 
-add-variables-2 : tie.Need-overflow-add-variables-2
-add-variables-2 c =
-    let n = c.before.before.before.before.before.before.before.before.before in
-    let p = n.before.before in
-    let held = (start p).requires.1.holds.counts in
-    omega (arith, held.bases_most, held.booleans_most, n.counts.ensures.1.0, fresh_small p.pair-literals.ensures.proper)
+add_variables_2 : tie.Need-overflow_add-variables-in-Pair
+add_variables_2 c =
+    let n = c in
+    let p = n in
+    let held = (start p.before.before.before.before.before.before.before.before.before.before.before).requires.1.holds.counts in
+    omega (arith, held.bases_most, held.booleans_most, n.counts-totals.ensures.1.0, fresh_small p.pair_literals-count.ensures.proper)
 
-returns-2 : tie.Need-returns-2
-returns-2 c = λ bytes known. writes_quiet known (ap found_of c.enum_told.given.1) _
+returns_2 : tie.Need-returns-in-Nothing
+returns_2 c = λ bytes known. writes_quiet known (ap found_of c.in-Nothing.is) _
 
-same_length : tie.Need-same-length
+same_length : tie.Need-shape_of-numbers
 same_length c = search rules
 
-returns-3 : tie.Need-returns-3
-returns-3 c = λ bytes known.
-    let w = c.before.before in
-    let e = w.before.before.before.before.before in
-    let n = e.before.before in
-    let p = n.before.before in
-    let counts = (start p).args.counts in
-    let counted = n.counts.ensures in
-    writes_clauses known _ (ap found_of p.before.before.before.found.given.1) p.pair-literals.ensures _ _ _ _ _
-    (omega (arith, e.if1.false, counted.1.1 counts.bases counts.booleans))
-    (ap (λ (fresh : ℕ). 32 * counts.bases + counts.booleans + fresh) counted.1.0) (counted.0 counts.bases counts.booleans) w.put_clauses.ensures.1 w.put_clauses.ensures.0
+returns_3 : tie.Need-returns-else-numbers-totals
+returns_3 c = λ bytes known.
+    let w = c in
+    let e = w in
+    let n = e in
+    let p = n in
+    let counts = (start p.before.before.before.before.before.before.before.before.before.before.before).args.counts in
+    let counted = n.counts-totals.ensures in
+    writes_clauses known _ (ap found_of p.in-Pair.is) p.pair_literals-count.ensures _ _ _ _ _
+    (omega (arith, e.if-numbers-totals.false, counted.1.1 counts.bases counts.booleans))
+    (ap (λ (fresh : ℕ). 32 * counts.bases + counts.booleans + fresh) counted.1.0) (counted.0 counts.bases counts.booleans) w.put_clauses-written.ensures.1 w.put_clauses-written.ensures.0
 
 pub write_spec : {M : Type 1} → statement M
 write_spec =
     tie.close
     (tie.spec
     enum_told
-    enum-known-found
-    pair-literals-requires
-    counts-requires
+    enum_known_found
+    pair_literals_requires
+    counts_requires
     returns
-    cast-bases
-    cast-booleans
-    put-clauses-requires
-    mul-variables
-    add-variables
-    add-variables-2
-    returns-2
+    cast_bases
+    cast_booleans
+    put_clauses_requires
+    mul_variables
+    add_variables
+    add_variables_2
+    returns_2
     same_length
-    returns-3)
+    returns_3)

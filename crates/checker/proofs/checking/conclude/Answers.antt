@@ -1,0 +1,37 @@
+-- `checker::checking::conclude` meets its contract: with no pair consistent, with one its lemma's bytes, or 10 where there is no room for them; each by
+-- its law of Writes. Assumes nothing.
+use native.Mathlib.Omega.{arith}
+use mathlib.Core.Path.{refl, ap}
+use borrow.Author.Rules.{rules}
+use Rattle.lemma.specs.Pairs.{found_of}
+use Rattle.front.proofs.Facts.{paired}
+use Rattle.checker.proofs.Writes.{checks_quiet, checks_short, checks_conflict}
+use Rattle.checker.proofs.checking.conclude.Goals as goal
+
+pub pair_literals-count-requires : goal.pair_literals-count-requires
+pair_literals-count-requires c =
+    let f = c in
+    paired f.requires.1 _ (ap found_of f.in-Pair.is) _ refl
+
+pub lemma_length-length-requires : goal.lemma_length-length-requires
+lemma_length-length-requires c = c.pair_literals-count.ensures.proper
+
+pub returns-then-answer-length : goal.returns-then-answer-length
+returns-then-answer-length c = λ bytes known.
+    let p = c in
+    checks_short known _ (ap found_of p.in-Pair.is) p.pair_literals-count.ensures _ (omega (arith, c.if-answer-length.true, c.lemma_length-length.ensures))
+
+pub put_lemma-written-requires : goal.put_lemma-written-requires
+put_lemma-written-requires c =
+    let e = c in
+    (e.pair_literals-count.ensures.proper, omega (arith, e.if-answer-length.false, e.lemma_length-length.ensures))
+
+pub returns-in-Nothing : goal.returns-in-Nothing
+returns-in-Nothing c = λ bytes known. checks_quiet known (ap found_of c.in-Nothing.is) _
+
+pub returns-else-answer-length : goal.returns-else-answer-length
+returns-else-answer-length c = λ bytes known.
+    let w = c in
+    let e = w in
+    let p = e in
+    checks_conflict known _ (ap found_of p.in-Pair.is) p.pair_literals-count.ensures _ _ _ (omega (arith, e.if-answer-length.false, e.lemma_length-length.ensures)) w.put_lemma-written.ensures.0 w.put_lemma-written.ensures.1

@@ -1,0 +1,19 @@
+-- `checker::writing::clauses` meets its contract: a refused query by the loader's refusal, an accepted one by what is ruled on its tables.
+-- Assumes nothing.
+use borrow.Author.Rules.{rules}
+use Rattle.front.proofs.Facts.{refused, judged}
+use Rattle.checker.proofs.Writes.{write_refused_lem}
+use Rattle.checker.proofs.writing.clauses.Goals as goal
+
+pub returns-then-number-ne0 : goal.returns-then-number-ne0
+returns-then-number-ne0 c = write_refused_lem _ _ _ _ c.if-number-ne0.true (refused c.judge-front.ensures c.if-number-ne0.true)
+
+pub write-requires : goal.write-requires
+write-requires c =
+    let e = c in
+    (_, judged e.judge-front.ensures e.if-number-ne0.false)
+
+pub returns : goal.returns
+returns c =
+    let e = c in
+    c.write.ensures _ (judged e.judge-front.ensures e.if-number-ne0.false)
