@@ -5,8 +5,9 @@
 ghost use Rattle.std.specs.Prelude.{◌≤◌};
 ghost use Rattle.io.specs.Counts.{IsPrefixLen};
 
-use libc::{STDIN_FILENO, STDOUT_FILENO};
 use paper::MAX_BYTES;
+use std::fmt::Display;
+use std::io::Read;
 
 // One byte more than a query may have, so that a longer input is refused with 1, however long it is.
 pub const QUERY_ROOM: usize = MAX_BYTES + 1;
@@ -14,68 +15,97 @@ pub const QUERY_ROOM: usize = MAX_BYTES + 1;
 // How many bytes a page holds.
 pub const PAGE: usize = 4096;
 
+// What cannot be read or written is said on standard error, with why, and the program goes on.
+fn fail(rt: &impl Eprint, what: &str, why: impl Display + Drop) {
+    let _ = rt.eprintln(format_args!("{what}: {why}"));
+}
+
+// Reads once, and answers how many bytes there were: none at the input's end, and none where the read fails.
+fn read_some(input: &mut impl Read, buffer: &mut [u8]) -> usize
+    ensures { IsPrefixLen result buffer.new }
+{
+    input.read(buffer).unwrap_or(0)
+}
+
+// Reads until the buffer is full, the input ends or a read fails, and answers how many bytes it put at the start of the buffer.
+pub fn read_full(input: &mut impl Read, buffer: &mut [u8]) -> usize
+    ensures { IsPrefixLen result buffer.new }
+{
+    let mut done = 0;
+    while done < buffer.len() {
+        let got = read_some(input, &mut buffer[done..]);
+        if got == 0 {
+            break;
+        }
+        done += got;
+    }
+    done
+}
+
 // Reads so many bytes of standard input, and answers whether they were there.
-pub fn fill(bytes: &mut [u8], length: usize) -> bool {
+pub fn fill(input: &mut impl Read, bytes: &mut [u8], length: usize) -> bool {
     if bytes.len() < length {
         return false;
     }
-    let held = io::read_full(STDIN_FILENO, &mut bytes[..length]);
+    let held = read_full(input, &mut bytes[..length]);
     length <= held
 }
 
 // Reads standard input into the buffer, up to its end or the buffer's, and answers how many bytes there were.
-pub fn read_query(buffer: &mut [u8]) -> usize
+pub fn read_query(input: &mut impl Read, buffer: &mut [u8]) -> usize
     ensures { IsPrefixLen result buffer.new }
 {
-    io::read_full(STDIN_FILENO, buffer)
+    read_full(input, buffer)
 }
 
 // Was the query read whole? A read that stopped short of the buffer's end must have met the input's. Otherwise standard error says why.
-pub fn was_read(held: usize) -> bool {
+pub fn was_read(rt: &impl Eprint, input: &mut impl Read, held: usize) -> bool {
     if held == QUERY_ROOM {
         return true;
     }
     let mut more = [0u8; 1];
-    let got = libc::read(STDIN_FILENO, &mut more);
-    if got != 0 {
-        os::fail(b"standard input");
-        return false;
+    match input.read(&mut more) {
+        Ok(0) => true,
+        Ok(_) => {
+            fail(rt, "standard input", "a read failed before its end");
+            false
+        }
+        Err(error) => {
+            fail(rt, "standard input", error);
+            false
+        }
     }
-    true
 }
 
-fn send(bytes: &[u8]) {
-    let sent = io::write_all(STDOUT_FILENO, bytes);
-    if !sent {
-        os::fail(b"standard output");
+fn send(rt: &(impl Print + Eprint), bytes: &[u8]) {
+    if let Err(error) = rt.write_all(bytes) {
+        fail(rt, "standard output", error);
     }
 }
 
 // Each function that prints takes the page and how many bytes stand on it, and answers how many stand there then.
-pub fn byte(page: &mut [u8; PAGE], used: usize, value: u8) -> usize {
+pub fn byte(rt: &(impl Print + Eprint), page: &mut [u8; PAGE], used: usize, value: u8) -> usize {
     if used < PAGE {
         page[used] = value;
         return used + 1;
     }
-    send(page);
+    send(rt, page);
     page[0] = value;
     1
 }
 
-pub fn text(page: &mut [u8; PAGE], used: usize, bytes: &[u8]) -> usize {
+pub fn text(rt: &(impl Print + Eprint), page: &mut [u8; PAGE], used: usize, bytes: &[u8]) -> usize {
     let mut stand = used;
-    let mut k = 0;
-    while k < bytes.len() {
-        stand = byte(page, stand, bytes[k]);
-        k += 1;
+    for value in bytes {
+        stand = byte(rt, page, stand, *value);
     }
     stand
 }
 
-pub fn number(page: &mut [u8; PAGE], used: usize, n: u64) -> usize {
+pub fn number(rt: &(impl Print + Eprint), page: &mut [u8; PAGE], used: usize, n: u64) -> usize {
     let mut digits = [0u8; 20];
     let count = io::decimal(n, &mut digits);
-    text(page, used, &digits[..count])
+    text(rt, page, used, &digits[..count])
 }
 
 // How far a number lies above zero, and 0 for one below.
@@ -89,41 +119,46 @@ fn height(n: i32) -> u64
 }
 
 // `!n` is -1 - n, so that no number is too low to be printed.
-pub fn signed(page: &mut [u8; PAGE], used: usize, n: i32) -> usize {
+pub fn signed(rt: &(impl Print + Eprint), page: &mut [u8; PAGE], used: usize, n: i32) -> usize {
     if n < 0 {
-        let stand = byte(page, used, b'-');
-        return number(page, stand, height(!n) + 1);
+        let stand = byte(rt, page, used, b'-');
+        return number(rt, page, stand, height(!n) + 1);
     }
-    number(page, used, height(n))
+    number(rt, page, used, height(n))
 }
 
 // "All decimal, one space between."
-pub fn then_number(page: &mut [u8; PAGE], used: usize, n: u64) -> usize {
-    let stand = byte(page, used, b' ');
-    number(page, stand, n)
+pub fn then_number(
+    rt: &(impl Print + Eprint),
+    page: &mut [u8; PAGE],
+    used: usize,
+    n: u64,
+) -> usize {
+    let stand = byte(rt, page, used, b' ');
+    number(rt, page, stand, n)
 }
 
-pub fn end_line(page: &mut [u8; PAGE], used: usize) -> usize {
-    byte(page, used, b'\n')
+pub fn end_line(rt: &(impl Print + Eprint), page: &mut [u8; PAGE], used: usize) -> usize {
+    byte(rt, page, used, b'\n')
 }
 
-fn send_front(bytes: &[u8], length: usize) {
+fn send_front(rt: &(impl Print + Eprint), bytes: &[u8], length: usize) {
     if length <= bytes.len() {
-        send(&bytes[..length]);
+        send(rt, &bytes[..length]);
     }
 }
 
 // Sends what stands on the page.
-pub fn finish(page: &[u8; PAGE], used: usize) {
-    send_front(page, used);
+pub fn finish(rt: &(impl Print + Eprint), page: &[u8; PAGE], used: usize) {
+    send_front(rt, page, used);
 }
 
 // "`refused` number offset"
-pub fn refused(number: u8, offset: usize) {
+pub fn refused(rt: &(impl Print + Eprint), number: u8, offset: usize) {
     let mut page = [0u8; PAGE];
-    let mut used = text(&mut page, 0, b"refused");
-    used = then_number(&mut page, used, number as u64);
-    used = then_number(&mut page, used, offset as u64);
-    used = end_line(&mut page, used);
-    finish(&page, used);
+    let mut used = text(rt, &mut page, 0, b"refused");
+    used = then_number(rt, &mut page, used, number as u64);
+    used = then_number(rt, &mut page, used, offset as u64);
+    used = end_line(rt, &mut page, used);
+    finish(rt, &page, used);
 }
