@@ -30,28 +30,34 @@ fn is_boolean(tag: u8) -> bool {
 }
 
 // "`eq`, `ne`, `true`, `false`, `then`"
-fn print_word(page: &mut [u8; PAGE], used: usize, tag: u8) -> usize {
+fn print_word(rt: &(impl Print + Eprint), page: &mut [u8; PAGE], used: usize, tag: u8) -> usize {
     match tag {
-        EQUAL => print::text(page, used, b"eq"),
-        DIFFER => print::text(page, used, b"ne"),
-        IS_TRUE => print::text(page, used, b"true"),
-        IS_FALSE => print::text(page, used, b"false"),
-        _ => print::text(page, used, b"then"),
+        EQUAL => print::text(rt, page, used, b"eq"),
+        DIFFER => print::text(rt, page, used, b"ne"),
+        IS_TRUE => print::text(rt, page, used, b"true"),
+        IS_FALSE => print::text(rt, page, used, b"false"),
+        _ => print::text(rt, page, used, b"then"),
     }
 }
 
-fn print_literal(page: &mut [u8; PAGE], used: usize, answer: &[u8; MAX_ANSWER], at: usize) -> usize
+fn print_literal(
+    rt: &(impl Print + Eprint),
+    page: &mut [u8; PAGE],
+    used: usize,
+    answer: &[u8; MAX_ANSWER],
+    at: usize,
+) -> usize
     requires { at < 337 }
 {
     let tag = answer[at];
     let first = two_bytes(answer[at + 3], answer[at + 4]);
-    let mut stand = print_word(page, used, tag);
-    stand = print::then_number(page, stand, first);
+    let mut stand = print_word(rt, page, used, tag);
+    stand = print::then_number(rt, page, stand, first);
     if !is_boolean(tag) {
         let second = two_bytes(answer[at + 5], answer[at + 6]);
-        stand = print::then_number(page, stand, second);
+        stand = print::then_number(rt, page, stand, second);
     }
-    print::end_line(page, stand)
+    print::end_line(rt, page, stand)
 }
 
 // Where the next literal starts.
@@ -67,6 +73,7 @@ fn after(answer: &[u8; MAX_ANSWER], at: usize) -> usize
 
 // "a line per literal"
 fn print_lemma(
+    rt: &(impl Print + Eprint),
     page: &mut [u8; PAGE],
     used: usize,
     answer: &[u8; MAX_ANSWER],
@@ -76,34 +83,53 @@ fn print_lemma(
     let mut at = 0;
     while at < length && at < STARTS {
         let next = after(answer, at);
-        stand = print_literal(page, stand, answer, at);
+        stand = print_literal(rt, page, stand, answer, at);
         at = next;
     }
     stand
 }
 
-fn print_verdict(page: &mut [u8; PAGE], used: usize, word: &[u8], pairs: usize) -> usize {
-    let mut stand = print::text(page, used, word);
-    stand = print::then_number(page, stand, pairs as u64);
-    print::end_line(page, stand)
+fn print_verdict(
+    rt: &(impl Print + Eprint),
+    page: &mut [u8; PAGE],
+    used: usize,
+    word: &[u8],
+    pairs: usize,
+) -> usize {
+    let mut stand = print::text(rt, page, used, word);
+    stand = print::then_number(rt, page, stand, pairs as u64);
+    print::end_line(rt, page, stand)
 }
 
-fn print_conflict(answer: &[u8; MAX_ANSWER], length: usize, pairs: usize) {
+fn print_conflict(
+    rt: &(impl Print + Eprint),
+    answer: &[u8; MAX_ANSWER],
+    length: usize,
+    pairs: usize,
+) {
     let mut page = [0u8; PAGE];
-    let mut used = print_verdict(&mut page, 0, b"conflict", pairs);
-    used = print_lemma(&mut page, used, answer, length);
-    print::finish(&page, used);
+    let mut used = print_verdict(rt, &mut page, 0, b"conflict", pairs);
+    used = print_lemma(rt, &mut page, used, answer, length);
+    print::finish(rt, &page, used);
 }
 
-fn print_cell(page: &mut [u8; PAGE], used: usize, array: usize, index: u64, value: u64) -> usize {
-    let mut stand = print::number(page, used, array as u64);
-    stand = print::then_number(page, stand, index);
-    stand = print::then_number(page, stand, value);
-    print::end_line(page, stand)
+fn print_cell(
+    rt: &(impl Print + Eprint),
+    page: &mut [u8; PAGE],
+    used: usize,
+    array: usize,
+    index: u64,
+    value: u64,
+) -> usize {
+    let mut stand = print::number(rt, page, used, array as u64);
+    stand = print::then_number(rt, page, stand, index);
+    stand = print::then_number(rt, page, stand, value);
+    print::end_line(rt, page, stand)
 }
 
 // "a line `array index value` for each array and index value that a source reaches there, by array, then index": the lines of one array.
 fn print_cells(
+    rt: &(impl Print + Eprint),
     page: &mut [u8; PAGE],
     used: usize,
     indices: &[u64; MAX_SOURCES],
@@ -114,14 +140,19 @@ fn print_cells(
     let mut stand = used;
     let mut k = 0;
     while k < MAX_SOURCES && k < count {
-        stand = print_cell(page, stand, array, indices[k], contents[k]);
+        stand = print_cell(rt, page, stand, array, indices[k], contents[k]);
         k += 1;
     }
     stand
 }
 
 // The cells of each array, up to the first that the query has not.
-fn print_model(page: &mut [u8; PAGE], used: usize, query: &[u8]) -> usize {
+fn print_model(
+    rt: &(impl Print + Eprint),
+    page: &mut [u8; PAGE],
+    used: usize,
+    query: &[u8],
+) -> usize {
     let mut indices = [0u64; MAX_SOURCES];
     let mut contents = [0u64; MAX_SOURCES];
     let mut stand = used;
@@ -133,7 +164,7 @@ fn print_model(page: &mut [u8; PAGE], used: usize, query: &[u8]) -> usize {
                 return stand;
             }
             Listed::Cells(count) => {
-                stand = print_cells(page, stand, &indices, &contents, count, array);
+                stand = print_cells(rt, page, stand, &indices, &contents, count, array);
             }
         }
         array += 1;
@@ -141,19 +172,19 @@ fn print_model(page: &mut [u8; PAGE], used: usize, query: &[u8]) -> usize {
     stand
 }
 
-fn print_consistent(query: &[u8], pairs: usize) {
+fn print_consistent(rt: &(impl Print + Eprint), query: &[u8], pairs: usize) {
     let mut page = [0u8; PAGE];
-    let mut used = print_verdict(&mut page, 0, b"consistent", pairs);
-    used = print_model(&mut page, used, query);
-    print::finish(&page, used);
+    let mut used = print_verdict(rt, &mut page, 0, b"consistent", pairs);
+    used = print_model(rt, &mut page, used, query);
+    print::finish(rt, &page, used);
 }
 
-pub fn verdict(query: &[u8]) {
+pub fn verdict(rt: &(impl Print + Eprint), query: &[u8]) {
     let mut answer = [0u8; MAX_ANSWER];
     let checked = checker::check(query, &mut answer);
     match checked {
-        Checked::Refused(refusal) => print::refused(refusal.number, refusal.offset),
-        Checked::Consistent(pairs) => print_consistent(query, pairs),
-        Checked::Conflict(pairs, length) => print_conflict(&answer, length, pairs),
+        Checked::Refused(refusal) => print::refused(rt, refusal.number, refusal.offset),
+        Checked::Consistent(pairs) => print_consistent(rt, query, pairs),
+        Checked::Conflict(pairs, length) => print_conflict(rt, &answer, length, pairs),
     }
 }

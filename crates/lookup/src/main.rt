@@ -6,6 +6,9 @@ ghost use Rattle.std.specs.Prelude.{◌≤◌};
 use checker::Looked;
 use paper::NUMBERS;
 use print::{PAGE, QUERY_ROOM};
+use std::fs;
+use std::io::Read;
+use std::rt::Files;
 
 // The longest `cell.txt`: two lines, each of ten digits and a newline.
 const ROOM: usize = 22;
@@ -108,43 +111,46 @@ fn cell_of(text: &[u8; ROOM], held: usize) -> Cell {
     }
 }
 
-fn read_cell() -> Cell {
-    let file = os::open_read(b"cell.txt");
-    if file < 0 {
-        return nowhere();
-    }
+// What the file holds, where its end comes no later than the longest `cell.txt`.
+fn cell_in(file: &mut impl Read) -> Cell {
     let mut text = [0u8; ROOM];
-    let held = io::read_full(file, &mut text);
+    let held = print::read_full(file, &mut text);
     let mut more = [0u8; 1];
-    let got = libc::read(file, &mut more);
-    libc::close(file);
-    if got != 0 {
-        return nowhere();
+    match file.read(&mut more) {
+        Ok(0) => cell_of(&text, held),
+        _ => nowhere(),
     }
-    cell_of(&text, held)
 }
 
-fn print_value(value: u64) {
+fn read_cell(rt: &impl Files) -> Cell {
+    match fs::open(rt, "cell.txt") {
+        Ok(mut file) => cell_in(&mut file),
+        Err(_) => nowhere(),
+    }
+}
+
+fn print_value(rt: &(impl Print + Eprint), value: u64) {
     let mut page = [0u8; PAGE];
-    let mut used = print::number(&mut page, 0, value);
-    used = print::end_line(&mut page, used);
-    print::finish(&page, used);
+    let mut used = print::number(rt, &mut page, 0, value);
+    used = print::end_line(rt, &mut page, used);
+    print::finish(rt, &page, used);
 }
 
-fn look(query: &[u8]) {
-    let cell = read_cell();
+fn look(rt: &(impl Files + Print + Eprint), query: &[u8]) {
+    let cell = read_cell(rt);
     let looked = checker::lookup(query, cell.array, cell.index);
     match looked {
-        Looked::Refused(refusal) => print::refused(refusal.number, refusal.offset),
-        Looked::Value(value) => print_value(value),
+        Looked::Refused(refusal) => print::refused(rt, refusal.number, refusal.offset),
+        Looked::Value(value) => print_value(rt, value),
     }
 }
 
 // Standard input comes first: were it closed, `cell.txt` would be opened under its number.
-fn main() {
+fn main(rt: HostRuntime) {
+    let mut input = rt.stdin();
     let mut buffer = [0u8; QUERY_ROOM];
-    let held = print::read_query(&mut buffer);
-    if print::was_read(held) {
-        look(&buffer[..held]);
+    let held = print::read_query(&mut input, &mut buffer);
+    if print::was_read(&rt, &mut input, held) {
+        look(&rt, &buffer[..held]);
     }
 }

@@ -4,24 +4,28 @@
 
 ghost use Rattle.std.specs.Prelude.{◌≤◌};
 
-use libc::{STDIN_FILENO, STDOUT_FILENO};
 use paper::{MAX_BASES, MAX_BOOLEANS, MAX_EDGES, MAX_SOURCES};
+use print::PAGE;
+use std::io::Read;
 
 // More than any query of the tests.
 const ROOM: usize = 5000;
 
-fn say(loaded: terms::Loaded) {
+fn accepted(rt: &(impl Print + Eprint)) {
+    let mut page = [0u8; PAGE];
+    let mut used = print::text(rt, &mut page, 0, b"accepted");
+    used = print::end_line(rt, &mut page, used);
+    print::finish(rt, &page, used);
+}
+
+fn say(rt: &(impl Print + Eprint), loaded: terms::Loaded) {
     let number = loaded.refusal;
     let offset = loaded.offset;
     if number == 0 {
-        io::write_all(STDOUT_FILENO, b"accepted\n");
+        accepted(rt);
         return;
     }
-    io::write_all(STDOUT_FILENO, b"refused ");
-    io::print_decimal(STDOUT_FILENO, number as u64);
-    io::write_all(STDOUT_FILENO, b" ");
-    io::print_decimal(STDOUT_FILENO, offset as u64);
-    io::write_all(STDOUT_FILENO, b"\n");
+    print::refused(rt, number, offset);
 }
 
 fn wide(byte: u8) -> usize
@@ -30,48 +34,50 @@ fn wide(byte: u8) -> usize
     byte as usize
 }
 
-fn load_query(query: &[u8]) {
+fn load_query(rt: &(impl Print + Eprint), query: &[u8]) {
     let mut values = [0u64; MAX_BASES];
     let mut truths = [0u8; MAX_BOOLEANS];
     let mut reads = [0u16; MAX_BASES];
     let mut sources = [0u32; MAX_SOURCES];
     let mut edges = [0u32; MAX_EDGES];
-    say(terms::load(
+    let loaded = terms::load(
         query,
         &mut values,
         &mut truths,
         &mut reads,
         &mut sources,
         &mut edges,
-    ));
+    );
+    say(rt, loaded);
 }
 
-fn load_front(bytes: &[u8], length: usize) {
+fn load_front(rt: &(impl Print + Eprint), bytes: &[u8], length: usize) {
     if length <= bytes.len() {
-        load_query(&bytes[..length]);
+        load_query(rt, &bytes[..length]);
     }
 }
 
 // Takes one query, and answers whether there was one.
-fn load_one() -> bool {
+fn load_one(rt: &(impl Print + Eprint), input: &mut impl Read) -> bool {
     let mut head = [0u8; 2];
-    let got = io::read_full(STDIN_FILENO, &mut head);
-    if got < 2 {
+    if !print::fill(input, &mut head, 2) {
         return false;
     }
     let length = wide(head[0]) * 256 + wide(head[1]);
     let mut bytes = [0u8; ROOM];
-    if print::fill(&mut bytes, length) {
-        load_front(&bytes, length);
+    if print::fill(input, &mut bytes, length) {
+        load_front(rt, &bytes, length);
         return true;
     }
     false
 }
 
-// A proved loop has to end, so it counts its turns down.
-fn main() {
-    let mut turns: u64 = 65536;
-    while turns > 0 && load_one() {
-        turns -= 1;
+// A proved loop has to end, so it has a last turn.
+fn main(rt: HostRuntime) {
+    let mut input = rt.stdin();
+    for _ in 0..65536 {
+        if !load_one(&rt, &mut input) {
+            break;
+        }
     }
 }

@@ -3,10 +3,11 @@
 
 use print::QUERY_ROOM;
 
-fn main() {
+fn main(rt: HostRuntime) {
+    let mut input = rt.stdin();
     let mut buffer = [0u8; QUERY_ROOM];
-    let held = print::read_query(&mut buffer);
-    if print::was_read(held) {
-        lines::verdict(&buffer[..held]);
+    let held = print::read_query(&mut input, &mut buffer);
+    if print::was_read(&rt, &mut input, held) {
+        lines::verdict(&rt, &buffer[..held]);
     }
 }
