@@ -3,7 +3,7 @@
 use Prim.Native.Nat.{◌≤◌}
 use native.Mathlib.Omega.{arith}
 use lib.ListN.{length-map}
-use Rattle.paper.specs.Lists.{count, range}
+use Rattle.paper.specs.Lists.{range}
 use Rattle.paper.specs.Clauses.{fresh_count}
 use Rattle.meaning.proofs.Lists.{range_length}
 use Rattle.meaning.proofs.Counts.{is_equal, has_e, fresh_count_32}

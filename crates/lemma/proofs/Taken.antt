@@ -11,7 +11,7 @@ use lib.Dec.{eqb}
 use lib.ListN.{get_or}
 use Rattle.paper.specs.Lists.{◌∈◌, or_else, map_option, find, range}
 use Rattle.paper.specs.Terms.{Term, Assignment, Query, assigned}
-use Rattle.paper.specs.Edges.{Source, sources}
+use Rattle.paper.specs.Edges.{Source}
 use Rattle.paper.specs.Reach.{reaches}
 use Rattle.paper.specs.Conflict.{Pair, conflicts, first_pair, conflict}
 use Rattle.meaning.proofs.Lists.{find_same, range_in}

@@ -11,7 +11,7 @@ use lib.Dec.{eqb}
 use lib.ListN.{get_or}
 use Rattle.paper.specs.Lists.{◌∈◌, is_some, keep, find, range}
 use Rattle.paper.specs.Terms.{Query, assigned}
-use Rattle.paper.specs.Edges.{Source, sources, covers}
+use Rattle.paper.specs.Edges.{Source, covers}
 use Rattle.paper.specs.Reach.{distances, reaches_at, reaches}
 use Rattle.paper.specs.Model.{value_given, model}
 use Rattle.paper.specs.Cells.{cell_of, place_all, cells}

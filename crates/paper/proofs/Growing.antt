@@ -12,7 +12,7 @@ use Rattle.paper.specs.Lists.{◌∈◌, any}
 use Rattle.paper.specs.Fields.{item_at}
 use Rattle.paper.specs.Fronts.{IsFront}
 use Rattle.paper.specs.Answers.{Verdict}
-use Rattle.paper.proofs.Rows.{Row, cut_at, fronts, conflict_in, refused_in, consistent, conflict_of, refused}
+use Rattle.paper.proofs.Rows.{Row, cut_at, fronts, conflict_in, refused_in, conflict_of, refused}
 use Rattle.paper.proofs.Queries.{free_base, variable, read, equals, concludes, k1, k3, k6_with, k11tag, k11short, k11length}
 
 -- G1: sources 1 and 2 conflict, at one index term. G2 has a read more: source 0 conflicts with it, at two index terms of one value, so

@@ -6,7 +6,7 @@ use Rattle.std.proofs.Math.Option.{Option, none, some}
 use Rattle.paper.specs.Lists.{◌∈◌, is_some, map_option, bind_option, count, sum, range}
 use Rattle.paper.specs.Fields.{array}
 use Rattle.paper.specs.Terms.{Term, given, Assignment}
-use Rattle.paper.specs.Edges.{index_number, Source, sources, Guard, Edge, edges, open_edges}
+use Rattle.paper.specs.Edges.{index_number, Source, sources, Guard, Edge, open_edges}
 
 -- "An edge can be walked both ways"
 abbrev pub Joins : Edge → (from to : ℕ) → Type 0

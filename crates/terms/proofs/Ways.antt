@@ -23,7 +23,7 @@ use Rattle.meaning.proofs.Accepted.{Below, own_number, Accepted, accepted, below
 use Rattle.terms.specs.Tables.{Tables, source_in, edges_of, edges_in}
 use Rattle.faults.specs.Faults.{count_in}
 use Rattle.terms.specs.Holds.{Holds, as_source}
-use Rattle.terms.specs.Graph.{shut_to, open_of, open_in, may_open, opened, Each, SourceWithin, EdgeWithin, Graphed}
+use Rattle.terms.specs.Graph.{shut_to, open_of, open_in, may_open, Each, SourceWithin, EdgeWithin, Graphed}
 use Rattle.terms.proofs.Columns.{each_as, value_at_lem, truth_at}
 
 module _ {A B : Type 0} (P : B → Type 0) (f : A → List B) where

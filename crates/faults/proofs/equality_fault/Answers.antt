@@ -1,6 +1,5 @@
 -- `faults::equality_fault` meets its contract: each test and choice is what its function ensures.
 -- Assumes nothing.
-use borrow.Author.Rules.{rules}
 use Rattle.faults.proofs.equality_fault.Goals as goal
 
 pub returns : goal.returns

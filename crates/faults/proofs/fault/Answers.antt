@@ -5,7 +5,6 @@ use mathlib.Core.Path.{◌≡◌, sym, ap}
 use mathlib.Core.Bool.{Bool, false, cond, ◌||◌, and-false}
 use mathlib.Core.List.{List}
 use lib.Dec.{eqb, leb, ltb}
-use borrow.Author.Rules.{rules}
 use Rattle.query.specs.declared.Field.TheVariants.{FreeBoolean}
 use Rattle.faults.specs.declared.Counts.{Counts}
 use Rattle.faults.specs.Faults.{fault_by}

@@ -1,6 +1,5 @@
 -- `faults::good_witnesses` meets its contract: each test and choice is what its function ensures.
 -- Assumes nothing.
-use borrow.Author.Rules.{rules}
 use Rattle.faults.proofs.good_witnesses.Goals as goal
 
 pub returns : goal.returns

@@ -1,6 +1,5 @@
 -- `faults::named_fault` meets its contract: each test and choice is what its function ensures.
 -- Assumes nothing.
-use borrow.Author.Rules.{rules}
 use Rattle.faults.proofs.named_fault.Goals as goal
 
 pub returns : goal.returns

@@ -1,7 +1,6 @@
 -- `front::pair_literals` meets its contract: the literals are those between the rows of the two sources.
 -- Assumes nothing.
 use native.Mathlib.Omega.{arith}
-use borrow.Author.Rules.{rules}
 use Rattle.front.proofs.pair_literals.Goals as goal
 
 pub offset_bounds-sources-first : goal.offset_bounds-sources-first

@@ -1,6 +1,5 @@
 -- `front::rule` meets its contract: what is marked can be searched, and the two answers are the ruling.
 -- Assumes nothing.
-use borrow.Author.Rules.{rules}
 use Rattle.front.proofs.Lending.{searchable}
 use Rattle.front.proofs.rule.Goals as goal
 

@@ -1,6 +1,5 @@
 -- `front::rule_alone` meets its contract: rows, links and marks that were just made can be ruled on, of either size.
 -- Assumes nothing.
-use borrow.Author.Rules.{rules}
 use Rattle.front.proofs.Lending.{unruled}
 use Rattle.front.proofs.rule_alone.Goals as goal
 

@@ -1,6 +1,5 @@
 -- `model::holds` meets its contract: the two tests are the definition's. Assumes nothing.
 use borrow.Author.Tests.{eq-eqb, ne_eqb}
-use borrow.Author.Rules.{rules}
 use Rattle.model.proofs.holds.Goals as goal
 
 pub returns-then-value-index : goal.returns-then-value-index

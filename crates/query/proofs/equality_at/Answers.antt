@@ -1,6 +1,5 @@
 -- `query::equality_at` meets its contract: four numbers and a truth of one byte stand at the places of the kind's parts.
 -- Assumes nothing.
-use native.Mathlib.Omega.{arith}
 use mathlib.Core.Path.{refl}
 use Rattle.query.proofs.Bytes.{parts_equality}
 use Rattle.query.proofs.equality_at.Goals as goal

@@ -1,6 +1,5 @@
 -- `query::read_at` meets its contract: two numbers and a value of the width stand at the places of the kind's parts.
 -- Assumes nothing.
-use native.Mathlib.Omega.{arith}
 use mathlib.Core.Path.{refl}
 use Rattle.query.proofs.Bytes.{parts_read}
 use Rattle.query.proofs.read_at.Goals as goal

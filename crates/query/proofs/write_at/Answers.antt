@@ -1,6 +1,5 @@
 -- `query::write_at` meets its contract: its three numbers stand at the places of the kind's parts.
 -- Assumes nothing.
-use native.Mathlib.Omega.{arith}
 use mathlib.Core.Path.{refl}
 use Rattle.paper.specs.Fields.{Series}
 use Rattle.query.proofs.Bytes.{parts_named}

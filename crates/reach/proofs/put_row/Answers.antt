@@ -3,7 +3,6 @@
 use Prim.Native.Nat.{◌+◌, ◌*◌, ◌/◌, ◌%◌}
 use native.Mathlib.Omega.{arith}
 use mathlib.Core.Path.{◌≡◌, ap, ◌∙◌}
-use borrow.Author.Rules.{rules}
 use lib.ListN.{set, length-set}
 use Rattle.reach.specs.Reached.{rows_in}
 use Rattle.reach.proofs.Parts.{rows_length, row_put}

@@ -1,7 +1,6 @@
 -- `reach::set_bit` meets its contract: no bit is shifted out.
 -- Assumes nothing.
 use native.Mathlib.Omega.{arith}
-use borrow.Author.Rules.{rules}
 use Rattle.reach.proofs.Bits.{one_shifted}
 use Rattle.reach.proofs.set_bit.Goals as goal
 

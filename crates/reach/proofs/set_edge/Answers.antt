@@ -3,7 +3,6 @@
 use Prim.Native.Nat.{ℕ}
 use mathlib.Core.List.{List}
 use mathlib.Core.Path.{ap, ◌∙◌}
-use borrow.Author.Rules.{rules}
 use Rattle.reach.specs.Steps.{bit_set}
 use Rattle.reach.proofs.set_edge.Goals as goal
 

@@ -2,7 +2,6 @@
 -- Assumes nothing.
 use mathlib.Core.Logic.{inl, inr}
 use mathlib.Core.Path.{refl}
-use borrow.Author.Rules.{rules}
 use Rattle.reach.proofs.share_or_spread.Goals as goal
 
 pub returns-then-found-eq1 : goal.returns-then-found-eq1

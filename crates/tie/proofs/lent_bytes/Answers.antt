@@ -1,6 +1,5 @@
 -- An element of a slice of bytes is below 256, wherever it stands.
 -- Assumes nothing.
-use borrow.Author.Rules.{rules}
 use Rattle.meaning.proofs.Built.{are_bytes}
 use Rattle.tie.proofs.lent_bytes.Goals as goal
 

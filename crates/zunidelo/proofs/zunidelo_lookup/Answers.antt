@@ -1,6 +1,5 @@
 -- Each case of the answer reports what it is, and the answer is the paper's (Tells).
 -- Assumes nothing.
-use borrow.Author.Rules.{rules}
 use Rattle.zunidelo.proofs.Tells.{look_tells}
 use Rattle.zunidelo.proofs.zunidelo_lookup.Goals as goal
 

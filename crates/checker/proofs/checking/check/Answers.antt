@@ -1,6 +1,5 @@
 -- `checker::checking::check` meets its contract: a refused query by the loader's refusal, an accepted one by what is ruled on its tables.
 -- Assumes nothing.
-use borrow.Author.Rules.{rules}
 use Rattle.front.proofs.Facts.{refused, judged}
 use Rattle.checker.proofs.Writes.{check_refused_lem}
 use Rattle.checker.proofs.checking.check.Goals as goal

@@ -2,7 +2,6 @@
 -- its law of Writes. Assumes nothing.
 use native.Mathlib.Omega.{arith}
 use mathlib.Core.Path.{refl, ap}
-use borrow.Author.Rules.{rules}
 use Rattle.lemma.specs.Pairs.{found_of}
 use Rattle.front.proofs.Facts.{paired}
 use Rattle.checker.proofs.Writes.{checks_quiet, checks_short, checks_conflict}

@@ -1,6 +1,5 @@
 -- `checker::listing::cells` meets its contract: a refused query by the loader's refusal, an accepted one by what is ruled on its tables.
 -- Assumes nothing.
-use borrow.Author.Rules.{rules}
 use Rattle.front.proofs.Facts.{refused, judged}
 use Rattle.checker.proofs.Looks.{list_refused_lem}
 use Rattle.checker.proofs.listing.cells.Goals as goal

@@ -1,11 +1,11 @@
 -- `checker::listing::copy_first` meets its contract: after k turns the first k numbers stand there, and the rest is as it was.
 -- Assumes nothing.
-use Prim.Native.Nat.{ℕ, ◌-◌, ◌≤◌}
+use Prim.Native.Nat.{ℕ}
 use native.Mathlib.Numerals.{add-one}
 use native.Mathlib.Omega.{arith}
 use mathlib.Core.Path.{◌≡◌, refl, sym, ap, ◌∙◌}
 use mathlib.Core.List.{List}
-use lib.ListN.{length, get_or, set, take, length-set}
+use lib.ListN.{get_or, set, take, length-set}
 use Rattle.paper.specs.Answers.{written_over}
 use Rattle.checker.proofs.Copies.{copied}
 use Rattle.checker.proofs.listing.copy_first.Goals as goal

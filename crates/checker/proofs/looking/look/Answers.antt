@@ -1,7 +1,6 @@
 -- `checker::looking::look` meets its contract: 12, then 11 twice, then the value, each by its law of Looks.
 -- Assumes nothing.
 use mathlib.Core.Path.{ap}
-use borrow.Author.Rules.{rules}
 use Rattle.reach.proofs.Paper.{within}
 use Rattle.lemma.specs.Pairs.{found_of}
 use Rattle.checker.proofs.Looks.{looks_clash, looks_nowhere, looks_past, looks_up}

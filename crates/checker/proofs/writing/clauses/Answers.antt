@@ -1,6 +1,5 @@
 -- `checker::writing::clauses` meets its contract: a refused query by the loader's refusal, an accepted one by what is ruled on its tables.
 -- Assumes nothing.
-use borrow.Author.Rules.{rules}
 use Rattle.front.proofs.Facts.{refused, judged}
 use Rattle.checker.proofs.Writes.{write_refused_lem}
 use Rattle.checker.proofs.writing.clauses.Goals as goal

@@ -1,7 +1,6 @@
 -- `cnf::literal::literal_at` meets its contract. It takes one row apart, and a term number of one byte is at most 255.
 -- Assumes nothing.
 use native.Mathlib.Omega.{arith}
-use borrow.Author.Rules.{rules}
 use Rattle.cnf.proofs.literal.literal_at.Goals as goal
 
 pub returns : goal.returns

@@ -7,7 +7,6 @@ use mir.Syntax.{w32}
 use mir.Val.{SFits, to_z}
 use mir.ValLaws.{to_z_pos, to_z-of_z}
 use lib.IntN.{ℤ, pos, neg_ℤ, ◌-ℤ◌, +ℤ_idl}
-use borrow.Author.Rules.{rules}
 use Rattle.cnf.proofs.numbers.negative.Goals as goal
 
 negative_fits : (n : ℕ) → n < 2147483648 → SFits w32 (neg_ℤ (pos n))

@@ -3,7 +3,6 @@
 use native.Mathlib.Omega.{arith}
 use mir.Syntax.{w32}
 use mir.Facts.{to_z_pos}
-use borrow.Author.Rules.{rules}
 use Rattle.cnf.proofs.numbers.positive.Goals as goal
 
 pub returns : goal.returns

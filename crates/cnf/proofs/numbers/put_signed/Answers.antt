@@ -7,7 +7,6 @@ use mir.Syntax.{w32}
 use mir.ValLaws.{to_z-of_z}
 use lib.IntN.{ℤ}
 use lib.ListN.{set}
-use borrow.Author.Rules.{rules}
 use Rattle.cnf.specs.Parts.{Put}
 use Rattle.cnf.proofs.numbers.put_signed.Goals as goal
 

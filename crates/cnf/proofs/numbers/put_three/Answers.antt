@@ -1,7 +1,5 @@
 -- `cnf::numbers::put_three` meets its contract. Four numbers are stored one after the other, each where the last one ended.
 -- Assumes nothing.
-use native.Mathlib.Omega.{arith}
-use borrow.Author.Rules.{rules}
 use Rattle.cnf.proofs.Runs.{begun, further, done}
 use Rattle.cnf.proofs.numbers.put_three.Goals as goal
 

@@ -2,7 +2,6 @@
 -- edges is the path over the edges that they open; of the literals along it those are left that stay. Assumes nothing.
 use native.Mathlib.Omega.{arith}
 use mathlib.Core.Path.{refl, ap, ◌∙◌}
-use borrow.Author.Rules.{rules}
 use Rattle.paper.specs.Lists.{keep}
 use Rattle.lemma.specs.Literals.{literals_for}
 use Rattle.lemma.specs.Fixed.{stays_by}

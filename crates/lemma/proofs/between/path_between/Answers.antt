@@ -1,6 +1,5 @@
 -- `lemma::between::path_between` meets its contract: from the goal itself the path has no step, and from elsewhere it is found by the
 -- table of distances. Assumes nothing.
-use borrow.Author.Rules.{rules}
 use Rattle.lemma.proofs.Opened.{asked, at_home}
 use Rattle.lemma.proofs.between.path_between.Goals as goal
 

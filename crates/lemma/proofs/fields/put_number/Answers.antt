@@ -1,7 +1,6 @@
 -- `lemma::fields::put_number` meets its contract: its two stores are those of `sets`. Assumes nothing.
 use native.Mathlib.Numerals.{add-one}
 use native.Mathlib.Omega.{arith}
-use borrow.Author.Rules.{rules}
 use lib.ListN.{length-set}
 use Rattle.lemma.proofs.fields.put_number.Goals as goal
 

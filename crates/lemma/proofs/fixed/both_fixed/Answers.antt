@@ -1,6 +1,5 @@
 -- `lemma::fixed::both_fixed` meets its contract: the second is asked for where the first is fixed. Assumes nothing.
 use mathlib.Core.Path.{sym, ◌∙◌}
-use borrow.Author.Rules.{rules}
 use Rattle.lemma.proofs.fixed.both_fixed.Goals as goal
 
 pub returns-then-is_fixed : goal.returns-then-is_fixed

@@ -1,6 +1,6 @@
 -- `lemma::fixed::leave_out` meets its contract. The invariant, `Leaving`: of the literals up to k those are left that stay, and the others stand where they stood.
 -- Assumes nothing.
-use Prim.Native.Nat.{ℕ, ◌-◌}
+use Prim.Native.Nat.{ℕ}
 use native.Mathlib.Omega.{arith}
 use mathlib.Core.Path.{◌≡◌, subst}
 use Rattle.lemma.specs.Rows.{listed}

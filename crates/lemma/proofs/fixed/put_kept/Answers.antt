@@ -1,6 +1,5 @@
 -- `lemma::fixed::put_kept` meets its contract: each return is the case that the test picks. Assumes nothing.
 use mathlib.Core.Path.{sym, ◌∙◌}
-use borrow.Author.Rules.{rules}
 use Rattle.lemma.proofs.fixed.put_kept.Goals as goal
 
 pub returns-then-left_out : goal.returns-then-left_out

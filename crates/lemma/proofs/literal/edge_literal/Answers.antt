@@ -1,7 +1,6 @@
 -- `lemma::literal::edge_literal` meets its contract: each return packs the literal of the guard that its tests pick. Assumes nothing.
 use mathlib.Core.Path.{refl}
 use native.Mathlib.Omega.{arith}
-use borrow.Author.Rules.{rules}
 use borrow.Author.Tests.{eq-eqb, ne_eqb}
 use Rattle.lemma.proofs.Packing.{packed, two_numbers, one_number}
 use Rattle.lemma.proofs.literal.edge_literal.Goals as goal

@@ -1,6 +1,5 @@
 -- `lemma::literal::put_once` meets its contract: each return is the case of `once` that the test picks. Assumes nothing.
 use mathlib.Core.Path.{sym, ◌∙◌}
-use borrow.Author.Rules.{rules}
 use Rattle.lemma.proofs.literal.put_once.Goals as goal
 
 pub returns-then-stands : goal.returns-then-stands

@@ -1,6 +1,5 @@
 -- `lemma::pairs::settles` meets its contract: each return is the case of `settled_by` that its test picks.
 -- Assumes nothing.
-use borrow.Author.Rules.{rules}
 use Rattle.lemma.proofs.pairs.settles.Goals as goal
 
 pub stands_in-requires : goal.stands_in-requires

@@ -1,5 +1,4 @@
 -- `lemma::paths::touches` meets its contract: the three tests are the definition's. Assumes nothing.
-use borrow.Author.Rules.{rules}
 use borrow.Author.Tests.{eq-eqb, ne_eqb}
 use Rattle.lemma.proofs.paths.touches.Goals as goal
 

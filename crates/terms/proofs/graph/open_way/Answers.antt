@@ -1,7 +1,6 @@
 -- `terms::graph::open_way` meets its contract: a row that is shut joins nothing, and any other what it may.
 -- Assumes nothing.
 use mathlib.Core.Path.{sym, ◌∙◌}
-use borrow.Author.Rules.{rules}
 use Rattle.terms.proofs.Ways.{shut_none, may_open_lem}
 use Rattle.terms.proofs.graph.open_way.Goals as goal
 

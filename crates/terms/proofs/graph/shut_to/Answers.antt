@@ -1,6 +1,5 @@
 -- `terms::graph::shut_to` meets its contract, test by test.
 -- Assumes nothing.
-use borrow.Author.Rules.{rules}
 use borrow.Author.Tests.{eq-eqb, ne_eqb}
 use Rattle.terms.specs.Graph.{shut_to}
 use Rattle.terms.proofs.graph.shut_to.Goals as goal

@@ -3,7 +3,6 @@
 use Prim.Native.Nat.{◌/◌, ◌%◌}
 use mathlib.Core.List.{[]}
 use mathlib.Core.Path.{sym}
-use borrow.Author.Rules.{rules}
 use Rattle.terms.specs.Graph.{open_in}
 use Rattle.terms.proofs.Ways.{may_write, open_other, open_true, shut_false}
 use Rattle.terms.proofs.graph.way_of.Goals as goal
