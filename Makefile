@@ -26,7 +26,7 @@ lemmas: $(archive)
 
 # the product against the second program, SEEDS="5 6 7" COUNT=10000 FIELDS=7 or as asked
 soak: $(archive)
-	@rt check answers
+	@tests/build answers
 	@tests/second
 
 # lemmas, clauses and models confirmed by z3 and cadical, SEEDS="5 6 7" COUNT=2000 or as asked

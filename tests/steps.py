@@ -105,6 +105,11 @@ def archive():
     return step("tests/library", ["tests/library"])
 
 
+def programs(*names):
+    """Has these programs, each proved and linked where it is missing or a source is newer: answers whether they stand."""
+    return step("tests/build " + " ".join(names), ["tests/build", *names])
+
+
 def numbers_asked(name):
     """What the environment asks for under this name."""
     words = os.environ.get(name, "").split()
