@@ -13,7 +13,7 @@ test:
 
 # the archive that C and Rust link, made again where a source is newer
 archive = target/lib/libzunidelo.a
-$(archive): crates.txt $(shell find crates -name '*.rt')
+$(archive): crates.txt $(shell find crates -path 'crates/*/out' -prune -o -name '*.rt' -print)
 	@tests/library && touch $@
 
 build_bench = cd rust && ZUNIDELO_BEFORE="$(abspath $(BEFORE))" cargo build --release --offline --quiet -p bench

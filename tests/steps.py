@@ -98,7 +98,9 @@ def cargo_tests(name, command):
 def archive():
     """Has the archive that C and Rust link, made again where a source is newer: answers whether it stands."""
     sources = [os.path.join(ROOT, "crates.txt")]
-    for folder, _, files in os.walk(os.path.join(ROOT, "crates")):
+    for folder, folders, files in os.walk(os.path.join(ROOT, "crates")):
+        # (what rt makes of a crate holds copies of its files)
+        folders[:] = [name for name in folders if name != "out"]
         sources += [os.path.join(folder, file) for file in files if file.endswith(".rt")]
     if os.path.exists(ARCHIVE) and max(map(os.path.getmtime, sources)) <= os.path.getmtime(ARCHIVE):
         return True
