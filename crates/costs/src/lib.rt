@@ -132,8 +132,34 @@ fn distances_from<'a>(
     row
 }
 
-// The distances from each array term to each, over the edges open to index value x: an array of 48 arrays, with 255 where there is no walk.
+// The distances from each array term to each, over the edges open to index value x, into a table of 48 rows that is lent: each with 255
+// where there is no walk.
 // An edge's ends differ in their distance by its cost at the most, so that the last seven bits of a distance tell all that the path asks.
+pub fn put_distances<'a>(
+    values: &'a [u64; MAX_BASES],
+    truths: &'a [u8; MAX_BOOLEANS],
+    edges: &'a [u32; MAX_EDGES],
+    count: usize,
+    x: u64,
+    arrays: usize,
+    table: &mut [[u8; MAX_ARRAYS]; MAX_ARRAYS],
+)
+    requires { Lent edges.now count arrays }
+    ensures { Distances (open_to values.now truths.now edges.now count) x arrays table.new }
+{
+    let mut cheap = [0u64; MAX_ARRAYS];
+    let mut writes = [0u64; MAX_ARRAYS];
+    sort_edges(values, truths, edges, count, x, &mut cheap, &mut writes);
+    let mut waiting = [0u64; MAX_ARRAYS];
+    let mut distances = [0u16; MAX_ARRAYS];
+    let mut a = 0;
+    while a < arrays {
+        table[a] = distances_from(&cheap, &writes, a, &mut waiting, &mut distances);
+        a += 1;
+    }
+}
+
+// The same as an array of 48 arrays.
 pub fn distances<'a>(
     values: &'a [u64; MAX_BASES],
     truths: &'a [u8; MAX_BOOLEANS],
@@ -145,16 +171,7 @@ pub fn distances<'a>(
     requires { Lent edges.now count arrays }
     ensures { Distances (open_to values.now truths.now edges.now count) x arrays result }
 {
-    let mut cheap = [0u64; MAX_ARRAYS];
-    let mut writes = [0u64; MAX_ARRAYS];
-    sort_edges(values, truths, edges, count, x, &mut cheap, &mut writes);
-    let mut waiting = [0u64; MAX_ARRAYS];
-    let mut distances = [0u16; MAX_ARRAYS];
     let mut table = [[255u8; MAX_ARRAYS]; MAX_ARRAYS];
-    let mut a = 0;
-    while a < arrays {
-        table[a] = distances_from(&cheap, &writes, a, &mut waiting, &mut distances);
-        a += 1;
-    }
+    put_distances(values, truths, edges, count, x, arrays, &mut table);
     table
 }

@@ -26,7 +26,8 @@ fn path_between<'a>(
     if from == goal {
         return 0;
     }
-    let distances = costs::distances(values, truths, edges, ways, x, arrays);
+    let mut distances = [[255u8; MAX_ARRAYS]; MAX_ARRAYS];
+    costs::put_distances(values, truths, edges, ways, x, arrays, &mut distances);
     least_path(
         values, truths, edges, ways, &distances, x, arrays, from, goal, path,
     )
