@@ -54,9 +54,9 @@ use Rattle.checker.proofs.Told as Told
 use Rattle.checker.proofs.Told.{checked_by, check_told, check_told_lem, look_told, look_told_lem, list_told, list_told_lem, indices_over, values_over, beside_with, written_by, write_told, write_told_lem, front, rest, check_over, write_over}
 
 -- "two results allowed by it are equal", with their buffers
-pub check_settled : (bytes before after other_After : List ℕ) (r other : Checked) → CheckAllows bytes before after r → CheckAllows bytes before other_After other
-    → (r ≡ other) × (after ≡ other_After)
-check_settled bytes before after other_After r other one two = (check_told_lem one ∙ sym (check_told_lem two), one.buffer ∙ sym two.buffer)
+pub check_settled : (bytes before after other_after : List ℕ) (r other : Checked) → CheckAllows bytes before after r → CheckAllows bytes before other_after other
+    → (r ≡ other) × (after ≡ other_after)
+check_settled bytes before after other_after r other one two = (check_told_lem one ∙ sym (check_told_lem two), one.buffer ∙ sym two.buffer)
 
 pub lookup_settled : (bytes : List ℕ) (a x : ℕ) (r other : Looked) → LookAllows bytes a x r → LookAllows bytes a x other → r ≡ other
 lookup_settled bytes a x r other one two = look_told_lem (look 32 bytes a x) one ∙ sym (look_told_lem (look 32 bytes a x) two)
@@ -66,9 +66,9 @@ pub cells_settled : (bytes : List ℕ) (a : ℕ) (indices indices' other_indices
 cells_settled bytes a indices indices' other_indices values values' other_values r other one two =
     (list_told_lem one ∙ sym (list_told_lem two), one.indices_run ∙ sym two.indices_run, one.values_run ∙ sym two.values_run)
 
-pub clauses_settled : (bytes : List ℕ) (before after other_After : List ℤ) (r other : Written) → WriteAllows bytes before after r
-    → WriteAllows bytes before other_After other → (r ≡ other) × (after ≡ other_After)
-clauses_settled bytes before after other_After r other one two = (write_told_lem one ∙ sym (write_told_lem two), one.run ∙ sym two.run)
+pub clauses_settled : (bytes : List ℕ) (before after other_after : List ℤ) (r other : Written) → WriteAllows bytes before after r
+    → WriteAllows bytes before other_after other → (r ≡ other) × (after ≡ other_after)
+clauses_settled bytes before after other_after r other one two = (write_told_lem one ∙ sym (write_told_lem two), one.run ∙ sym two.run)
 
 -- Demand 1. Bytes that 01 refuses as a query are refused by each call, by the paper's number and offset.
 module _ (bytes : List ℕ) (refusal at : ℕ) (loaded : load 32 bytes ≡ Loaded.refused refusal at) where
@@ -184,7 +184,7 @@ module _ (bytes : List ℕ) (query : Query) (are_bytes : AreBytes bytes) (loaded
       → Interpretation 32 query.terms (guess_of query) (λ a x. (look_report_of (answers a x)).value)
   lookup_interprets consistent answers allowed =
       Answered.lookups_interpret 32 bytes query are_bytes loaded consistent (omega arith) (λ a x. (look_report_of (answers a x)).value)
-      (λ a x a_fits x_Fits. ap (λ report. report.value) (allowed a x a_fits x_Fits))
+      (λ a x a_fits x_fits. ap (λ report. report.value) (allowed a x a_fits x_fits))
 
   -- Each of them is a value: within the arrays and the indices nothing is refused. Outside it is 11, and on a query in conflict 12.
   pub lookup_answers : Paper.Consistent 32 query → (a x : ℕ) → a < given array query.terms → x < 2 ^ 32 → (r : Looked) → LookAllows bytes a x r
@@ -279,9 +279,9 @@ module _ (bytes : List ℕ) (query : Query) (are_bytes : AreBytes bytes) (loaded
 
   -- If `check` answers "conflict" for the front, it does for the whole; or it is lent less than 343 bytes there, and its lemma is longer.
   pub conflict_stays : (before after : List ℕ) (pairs long : ℕ) → CheckAllows front before after (Conflict pairs long)
-      → (other other_After : List ℕ) (r : Checked) → CheckAllows bytes other other_After r
+      → (other other_after : List ℕ) (r : Checked) → CheckAllows bytes other other_after r
       → ((pairs long : ℕ) × (r ≡ Conflict pairs long)) ⊎ ((length other < 343) × (r ≡ Refused (record { number = 10; offset = 0 })))
-  conflict_stays before after pairs long clash other other_After r allowed =
+  conflict_stays before after pairs long clash other other_after r allowed =
       let answer = check 32 bytes (length other) in
       ⊎_map (λ stays. (answer.pairs, length answer.written, check_told_lem allowed ∙ ap (λ one. checked_by one (reported answer)) stays))
       (λ (small, is). (small, check_told_lem allowed ∙ ap check_told is))
@@ -290,8 +290,8 @@ module _ (bytes : List ℕ) (query : Query) (are_bytes : AreBytes bytes) (loaded
   -- If it answers "consistent" for the whole, it does for the front, and what `lookup` answers for the whole is the memories of an
   -- interpretation of the front's terms too.
   pub consistent_fronts : (before after : List ℕ) (pairs : ℕ) → CheckAllows bytes before after (Consistent pairs)
-      → (other other_After : List ℕ) (r : Checked) → CheckAllows front other other_After r → (fewer : ℕ) × (r ≡ Consistent fewer)
-  consistent_fronts before after pairs quiet other other_After r allowed =
+      → (other other_after : List ℕ) (r : Checked) → CheckAllows front other other_after r → (fewer : ℕ) × (r ≡ Consistent fewer)
+  consistent_fronts before after pairs quiet other other_after r allowed =
       let answer = check 32 front (length other) in
       let calm = Grown.consistent_fronts 32 bytes query are_bytes loaded front cut (length before) (length other) (sym (ap (λ report. report.verdict) quiet.report)) in
       (answer.pairs, check_told_lem allowed ∙ ap (λ one. checked_by one (reported answer)) calm)
@@ -312,6 +312,6 @@ module _ (bytes : List ℕ) (query : Query) (are_bytes : AreBytes bytes) (loaded
 
 -- "Growing a query can't mend it": once `check` answers "conflict", it never answers "consistent" with more bytes after it, whatever they are.
 pub never_mended : (front rest : List ℕ) → AreBytes (front ++ rest) → (before after : List ℕ) (pairs long : ℕ) → CheckAllows front before after (Conflict pairs long)
-    → (other other_After : List ℕ) (more : ℕ) → CheckAllows (front ++ rest) other other_After (Consistent more) → ⊥
-never_mended front rest are_bytes before after pairs long clash other other_After more quiet =
+    → (other other_after : List ℕ) (more : ℕ) → CheckAllows (front ++ rest) other other_after (Consistent more) → ⊥
+never_mended front rest are_bytes before after pairs long clash other other_after more quiet =
     Grown.never_mended 32 front rest are_bytes (length before) (length other) (sym (ap (λ report. report.verdict) clash.report)) (sym (ap (λ report. report.verdict) quiet.report))

@@ -26,7 +26,7 @@ module _ (one other : List ℕ) where
   fewer n many h same = sym (take-take n many one h) ∙ ap (take n) same ∙ take-take n many other h
 
   further : (k n : ℕ) → take (k + n) one ≡ take (k + n) other → k ≤ length one → k ≤ length other → take n (drop k one) ≡ take n (drop k other)
-  further k n same one_Has other_has = sym (inside one one_Has) ∙ ap (drop k) same ∙ inside other other_has
+  further k n same one_has other_has = sym (inside one one_has) ∙ ap (drop k) same ∙ inside other other_has
     where
       inside : (bytes : List ℕ) → k ≤ length bytes → drop k (take (k + n) bytes) ≡ take n (drop k bytes)
       inside bytes has = ap (drop k) (take-add k n bytes) ∙ drop_at (take k bytes) (take n (drop k bytes)) k (length-take-le k bytes has)
@@ -34,8 +34,8 @@ module _ (one other : List ℕ) where
 -- numbers are cut from as many bytes as the parts have
 cut_alike : (w : ℕ) (rest : List Part) (one other : List ℕ) → take (sum (map (size w) rest)) one ≡ take (sum (map (size w) rest)) other
     → sum (map (size w) rest) ≤ length one → sum (map (size w) rest) ≤ length other → cut w rest one ≡ cut w rest other
-cut_alike w [] one other same one_Has other_has = refl
-cut_alike w (part ∷ rest) one other same one_Has other_has =
+cut_alike w [] one other same one_has other_has = refl
+cut_alike w (part ∷ rest) one other same one_has other_has =
     let here = size w part in
     let later = sum (map (size w) rest) in
     ap₂ (λ (x : ℕ) (xs : List ℕ). x ∷ xs) (ap number (fewer one other here (here + later) (omega arith) same))

@@ -42,7 +42,7 @@ pub fn read_full(input: &mut impl Read, buffer: &mut [u8]) -> usize
     done
 }
 
-// Reads so many bytes of standard input, and answers whether they were there.
+// Reads so many bytes, and answers whether they were there.
 pub fn fill(input: &mut impl Read, bytes: &mut [u8], length: usize) -> bool {
     if bytes.len() < length {
         return false;
@@ -51,7 +51,7 @@ pub fn fill(input: &mut impl Read, bytes: &mut [u8], length: usize) -> bool {
     length <= held
 }
 
-// Reads standard input into the buffer, up to its end or the buffer's, and answers how many bytes there were.
+// Reads into the buffer, up to the end of the input or the buffer, and answers how many bytes there were.
 pub fn read_query(input: &mut impl Read, buffer: &mut [u8]) -> usize
     ensures { IsPrefixLen result buffer.new }
 {

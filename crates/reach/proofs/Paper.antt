@@ -154,9 +154,9 @@ module _ {query : Query} {t : Tables} (held : Holds query t) (graph : Graphed qu
           ∙ ap (λ (n : ℕ). count (reaches query.terms (assigned query.guess) (source_at t k)) (range 0 n)) (sym (held.counts.given_as array))
 
 -- what a caller has of a load that ends in refusal 0
-module _ {bytes : List ℕ} {refusal offset : ℕ} {t : Tables} (loads : Loads bytes refusal offset t) (None-number : refusal ≡ 0) where
+module _ {bytes : List ℕ} {refusal offset : ℕ} {t : Tables} (loads : Loads bytes refusal offset t) (none_number : refusal ≡ 0) where
   accepted_is : load 32 bytes ≡ Loaded.accepted loads.query
-  accepted_is = sym loads.loaded ∙ ap (λ (n : ℕ). loaded_as n offset loads.query) None-number
+  accepted_is = sym loads.loaded ∙ ap (λ (n : ℕ). loaded_as n offset loads.query) none_number
 
   pub has_graph : ((i : ℕ) → get_or bytes i 0 < 256) → Graphed loads.query t
   has_graph small = accepted_graph bytes (are_bytes bytes small) accepted_is loads.holds

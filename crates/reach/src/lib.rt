@@ -186,14 +186,14 @@ fn turn<'a>(
 // The propagation, after 002, figure 9. σ is the guess, i the index of the source that is carried, ρ(a) the sources that are carried to a.
 //
 //     I   ρ(b) has the sources whose origin is b                              Spreading.begun
-//     D   in ρ(write(a, j, e)), and σ(i) ≠ σ(j): carried to a                 Words.one-more, from left to right
-//     U   in ρ(a), and σ(i) ≠ σ(j): carried to write(a, j, e)                 Words.one-more, from right to left
-//     R   in ρ(a), and σ(a = c) = ⊤: carried to c                             Words.one-more, from left to right
-//     L   in ρ(c), and σ(a = c) = ⊤: carried to a                             Words.one-more, from right to left
-//     C   two in ρ(a): their values are compared                              above this crate, by the rows: Rows.row-of
+//     D   in ρ(write(a, j, e)), and σ(i) ≠ σ(j): carried to a                 Words.one_more, from left to right
+//     U   in ρ(a), and σ(i) ≠ σ(j): carried to write(a, j, e)                 Words.one_more, from right to left
+//     R   in ρ(a), and σ(a = c) = ⊤: carried to c                             Words.one_more, from left to right
+//     L   in ρ(c), and σ(a = c) = ⊤: carried to a                             Words.one_more, from right to left
+//     C   two in ρ(a): their values are compared                              above this crate, by the rows: Rows.row_of
 //
 // A conditional is carried over as R and L are, to the branch that is chosen. D, U, R and L are repeated to the fixpoint
-// (Spreading.spread-on, Spreading.finished): what is met and not yet marked is the frontier, and each array term is counted as it is marked.
+// (Spreading.spread_on, Spreading.finished): what is met and not yet marked is the frontier, and each array term is counted as it is marked.
 fn spread_from(neighbours: &[u64; MAX_ARRAYS], origin: usize) -> Spread
     requires { (origin < max_arrays) × ((a : ℕ) → get_or neighbours.now a 0 < 2 ^ 48) }
     ensures { Spreads neighbours.now origin result }

@@ -34,19 +34,19 @@ use Rattle.zunidelo.specs.Told.{place, returned, unless_refused, check_numbers, 
 use Rattle.zunidelo.proofs.Tells.{returned_consistent, returned_conflict, returned_written, check_over, write_over, told_by_room}
 
 -- "two results allowed by it are equal", with their reports and buffers
-pub check_told_settled : (bytes before after other_After report other_report : List ℕ) (r other : ℕ) → CheckTells bytes before after report r
-    → CheckTells bytes before other_After other_report other → (r ≡ other) × (report ≡ other_report) × (after ≡ other_After)
-check_told_settled bytes before after other_After report other_report r other one two =
+pub check_told_settled : (bytes before after other_after report other_report : List ℕ) (r other : ℕ) → CheckTells bytes before after report r
+    → CheckTells bytes before other_after other_report other → (r ≡ other) × (report ≡ other_report) × (after ≡ other_after)
+check_told_settled bytes before after other_after report other_report r other one two =
     (one.returns ∙ sym two.returns, one.reports ∙ sym two.reports, one.buffer ∙ sym two.buffer)
 
 pub look_told_settled : (bytes : List ℕ) (a x : ℕ) (report other_report : List ℕ) (r other : ℕ) → LookTells bytes a x report r
     → LookTells bytes a x other_report other → (r ≡ other) × (report ≡ other_report)
 look_told_settled bytes a x report other_report r other one two = (one.returns ∙ sym two.returns, one.reports ∙ sym two.reports)
 
-pub write_told_settled : (bytes : List ℕ) (before after other_After : List ℤ) (report other_report : List ℕ) (r other : ℕ)
-    → WriteTells bytes before after report r → WriteTells bytes before other_After other_report other
-    → (r ≡ other) × (report ≡ other_report) × (after ≡ other_After)
-write_told_settled bytes before after other_After report other_report r other one two =
+pub write_told_settled : (bytes : List ℕ) (before after other_after : List ℤ) (report other_report : List ℕ) (r other : ℕ)
+    → WriteTells bytes before after report r → WriteTells bytes before other_after other_report other
+    → (r ≡ other) × (report ≡ other_report) × (after ≡ other_after)
+write_told_settled bytes before after other_after report other_report r other one two =
     (one.returns ∙ sym two.returns, one.reports ∙ sym two.reports, one.buffer ∙ sym two.buffer)
 
 -- Demand 1. Bytes that 01 refuses as a query are refused by each function, by the paper's number and offset, every other number 0.
@@ -150,7 +150,7 @@ module _ (bytes : List ℕ) (query : Query) (are_bytes : AreBytes bytes) (loaded
       → Interpretation 32 query.terms (guess_of query) (λ a x. place (reports a x) 2)
   look_told_interprets consistent reports r told =
       Answered.lookups_interpret 32 bytes query are_bytes loaded consistent (omega arith) (λ a x. place (reports a x) 2)
-      (λ a x a_fits x_Fits. ap (λ numbers. place numbers 2) (told a x a_fits x_Fits).reports)
+      (λ a x a_fits x_fits. ap (λ numbers. place numbers 2) (told a x a_fits x_fits).reports)
 
   pub look_told_answers : Paper.Consistent 32 query → (a x : ℕ) → a < given array query.terms → x < 2 ^ 32 → (report : List ℕ) (r : ℕ)
       → LookTells bytes a x report r → r ≡ 0
@@ -181,9 +181,9 @@ module _ (bytes : List ℕ) (query : Query) (are_bytes : AreBytes bytes) (loaded
 
   -- Where 1 is returned for the front, it is for the whole; or that call is lent less than 343 bytes, its lemma is longer, and it is refused 10.
   pub one_stays : (before after report : List ℕ) (r : ℕ) → CheckTells front before after report r → r ≡ 1
-      → (other other_After other_report : List ℕ) (s : ℕ) → CheckTells bytes other other_After other_report s
+      → (other other_after other_report : List ℕ) (s : ℕ) → CheckTells bytes other other_after other_report s
       → (s ≡ 1) ⊎ ((length other < 343) × (s ≡ 2) × (other_report ≡ 10 ∷ 0 ∷ 0 ∷ 0 ∷ []))
-  one_stays before after report r told one other other_After other_report s other_told =
+  one_stays before after report r told one other other_after other_report s other_told =
       ⊎_map (λ stays. other_told.returns ∙ ap returned stays)
       (λ (small, is). (small, other_told.returns ∙ ap (λ answer. returned answer.verdict) is, other_told.reports ∙ ap (λ answer. check_numbers (reported answer)) is))
       (Grown.conflict_or_short 32 bytes query are_bytes loaded front cut (length before) (length other) (returned_conflict _ (sym told.returns ∙ one)))
@@ -191,8 +191,8 @@ module _ (bytes : List ℕ) (query : Query) (are_bytes : AreBytes bytes) (loaded
   -- Where 0 is returned for the whole, it is for the front, and report[2] of `zunidelo_lookup`, asked of the whole, is the memories of an
   -- interpretation of the front's terms too.
   pub zero_fronts : (before after report : List ℕ) (r : ℕ) → CheckTells bytes before after report r → r ≡ 0
-      → (other other_After other_report : List ℕ) (s : ℕ) → CheckTells front other other_After other_report s → s ≡ 0
-  zero_fronts before after report r told zero other other_After other_report s other_told =
+      → (other other_after other_report : List ℕ) (s : ℕ) → CheckTells front other other_after other_report s → s ≡ 0
+  zero_fronts before after report r told zero other other_after other_report s other_told =
       other_told.returns
       ∙ ap returned
       (Grown.consistent_fronts 32 bytes query are_bytes loaded front cut (length before) (length other) (returned_consistent _ (sym told.returns ∙ zero)))
@@ -213,6 +213,6 @@ module _ (bytes : List ℕ) (query : Query) (are_bytes : AreBytes bytes) (loaded
 
 -- Once 1 is returned, 0 never is with more bytes after it, whatever they are.
 pub one_never_mended : (front rest : List ℕ) → AreBytes (front ++ rest) → (before after report : List ℕ) (r : ℕ) → CheckTells front before after report r → r ≡ 1
-    → (other other_After other_report : List ℕ) (s : ℕ) → CheckTells (front ++ rest) other other_After other_report s → s ≡ 0 → ⊥
-one_never_mended front rest are_bytes before after report r told one other other_After other_report s other_told zero =
+    → (other other_after other_report : List ℕ) (s : ℕ) → CheckTells (front ++ rest) other other_after other_report s → s ≡ 0 → ⊥
+one_never_mended front rest are_bytes before after report r told one other other_after other_report s other_told zero =
     Grown.never_mended 32 front rest are_bytes (length before) (length other) (returned_conflict _ (sym told.returns ∙ one)) (returned_consistent _ (sym other_told.returns ∙ zero))

@@ -1,4 +1,5 @@
-// What a program in C or Rust links (include/zunidelo.h): each function reports as numbers what the public function of its name answers.
+// What a program in C or Rust is told (include/zunidelo.h): each function reports as numbers what the public function of its name answers. The crate
+// `zunidelo_c` exports them.
 #![tactic(auto)]
 
 ghost use Rattle.zunidelo.specs.Told.{CheckTells, LookTells, WriteTells};
