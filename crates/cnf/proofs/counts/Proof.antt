@@ -67,17 +67,13 @@ loop_again : tie.Need-loop-k-preserved invariant_loop decreases_loop
 loop_again c =
     let rank = c in
     let freshes = rank in
-    let clauses = freshes in
-    let tag = clauses in
-    let inside = tag in
-    let loop = inside.loop-k in
-    let start = inside in
-    let width = start.args.width in
+    let loop = freshes.loop-k in
+    let width = freshes.args.width in
     let tallied =
-    tally_more width (lent start.before.before.before.before.before.before.before.before.before) loop.clauses loop.fresh loop.booleans loop.k _ _ _ inside.loop-k-test.true loop.invariant.0
-    (of_literal width (lent start.before.before.before.before.before.before.before.before.before) loop.k loop.fresh (λ one. length one.clauses) tag.tag_of-tag.ensures clauses.clause_count-clauses.ensures.0)
-    (of_literal width (lent start.before.before.before.before.before.before.before.before.before) loop.k loop.fresh (λ one. one.freshes) tag.tag_of-tag.ensures freshes.freshes-fresh.ensures.0)
-    (c.one_if-booleans.ensures.0 ∙ ap (λ (rank : ℕ). cond (eqb rank 0) 1 0) (of_literal width (lent start.before.before.before.before.before.before.before.before.before) loop.k loop.fresh (λ one. one.rank) tag.tag_of-tag.ensures (rank.rank.ensures width))) in
+    tally_more width (lent freshes.before.before.before.before.before.before.before.before.before) loop.clauses loop.fresh loop.booleans loop.k _ _ _ freshes.loop-k-test.true loop.invariant.0
+    (of_literal width (lent freshes.before.before.before.before.before.before.before.before.before) loop.k loop.fresh (λ one. length one.clauses) freshes.tag_of-tag.ensures freshes.clause_count-clauses.ensures.0)
+    (of_literal width (lent freshes.before.before.before.before.before.before.before.before.before) loop.k loop.fresh (λ one. one.freshes) freshes.tag_of-tag.ensures freshes.freshes-fresh.ensures.0)
+    (c.one_if-booleans.ensures.0 ∙ ap (λ (rank : ℕ). cond (eqb rank 0) 1 0) (of_literal width (lent freshes.before.before.before.before.before.before.before.before.before) loop.k loop.fresh (λ one. one.rank) freshes.tag_of-tag.ensures (rank.rank.ensures width))) in
     (tallied, omega arith, omega arith, omega arith, omega arith)
 
 mul_numbers : tie.Need-overflow_mul-numbers invariant_loop decreases_loop
@@ -97,9 +93,8 @@ add_clauses_2 c = omega arith
 
 returns : tie.Need-returns invariant_loop decreases_loop
 returns c =
-    let start = c in
     let loop = c.loop-k in
-    totals start.args.width (lent start.before.before) loop.clauses loop.fresh loop.booleans loop.k c.loop-k-test.false loop.invariant.0
+    totals c.args.width (lent c.before.before) loop.clauses loop.fresh loop.booleans loop.k c.loop-k-test.false loop.invariant.0
 
 pub counts_spec : {M : Type 1} → statement M
 counts_spec =

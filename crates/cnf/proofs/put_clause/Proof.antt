@@ -96,8 +96,7 @@ same_length c = c.put_side.auto.numbers ∙ ap length (head (placed c.before.bef
 
 returns : tie.Need-returns-then-left-clauses invariant_loop decreases_loop
 returns c =
-    let found = c in
-    put_in (head (placed found.before.before.before)).loop-k.invariant.1 (put_as (sym (here found.before.before.before).0) c.put_side.ensures)
+    put_in (head (placed c.before.before.before)).loop-k.invariant.1 (put_as (sym (here c.before.before.before).0) c.put_side.ensures)
 
 freshes_requires : tie.Need-freshes-fresh-requires invariant_loop decreases_loop
 freshes_requires c κs = omega arith
@@ -125,14 +124,12 @@ loop_again c =
 -- or the linking clause
 last : (c : tie.After-loop-k invariant_loop decreases_loop) → asked c.before.before ≡ linking_of (sizes c.before.before) (lent c.before.before)
 last c =
-    let start = c in
     let loop = c.loop-k in
-    clause_last (sizes start.before.before) (lent start.before.before) start.args.n loop.fresh loop.k loop.left loop.invariant.0 c.loop-k-test.false
+    clause_last (sizes c.before.before) (lent c.before.before) c.args.n loop.fresh loop.k loop.left loop.invariant.0 c.loop-k-test.false
 
 put_linking_requires : tie.Need-put_linking-requires invariant_loop decreases_loop
 put_linking_requires c κs =
-    let start = c in
-    (small start.before.before.before, start.requires.0, rw c.loop-k.invariant.1 (rw (last c.before) at start.requires.5))
+    (small c.before.before.before, c.requires.0, rw c.loop-k.invariant.1 (rw (last c.before) at c.requires.5))
 
 same_length_2 : tie.Need-shape_of-numbers invariant_loop decreases_loop
 same_length_2 c = c.put_linking.auto.numbers ∙ ap length c.loop-k.invariant.1

@@ -34,8 +34,7 @@ first c = c.before.before
 
 put_each_requires : tie.Need-put_each-at-requires
 put_each_requires c κs =
-    let start = c in
-    (small start.before, start.requires.0, room_for (all_of (sizes start.before) 3 (lent start.before)) _ (begin start.before) (omega arith))
+    (small c.before, c.requires.0, room_for (all_of (sizes c.before) 3 (lent c.before)) _ (begin c.before) (omega arith))
 
 put_linking_requires : tie.Need-put_linking-requires
 put_linking_requires c κs =
@@ -48,8 +47,7 @@ same_length c = search rules
 returns : tie.Need-returns
 returns c =
     let one = first c.before.before in
-    let start = one in
-    from_start _ _ _ _ (done (further (linking_of (sizes start.before.before) (lent start.before.before)) (left_as (sym (append-nil _)) (further (all_of (sizes start.before.before) 3 (lent start.before.before)) (begin start.before.before) one.put_each-at.ensures)) c.put_linking.ensures)) start.requires.4
+    from_start _ _ _ _ (done (further (linking_of (sizes one.before.before) (lent one.before.before)) (left_as (sym (append-nil _)) (further (all_of (sizes one.before.before) 3 (lent one.before.before)) (begin one.before.before) one.put_each-at.ensures)) c.put_linking.ensures)) one.requires.4
 
 pub put_clauses_spec : {M : Type 1} → statement M
 put_clauses_spec = tie.close (tie.spec put_each_requires put_linking_requires same_length returns)

@@ -54,9 +54,7 @@ literal_at_requires c κs = omega arith
 put_part_requires : tie.Need-put_part-next-requires invariant_loop decreases_loop
 put_part_requires c κs =
     let one = c.literal_at-literal.ensures in
-    let inside = c in
-    let start = inside in
-    (start.requires.0, one.1, rw one.0 (room_for (part inside.before.before.before) _ (ahead inside.before.before) start.requires.2))
+    (c.requires.0, one.1, rw one.0 (room_for (part c.before.before.before) _ (ahead c.before.before) c.requires.2))
 
 freshes_requires : tie.Need-freshes-fresh-requires invariant_loop decreases_loop
 freshes_requires c κs = omega arith

@@ -36,8 +36,7 @@ third c = c.before.before
 
 put_each_requires : tie.Need-put_each-at-requires
 put_each_requires c κs =
-    let start = c in
-    (start.requires.0, start.requires.1, room_for (links start.before 0) _ (begin start.before) start.requires.2)
+    (c.requires.0, c.requires.1, room_for (links c.before 0) _ (begin c.before) c.requires.2)
 
 put_each_requires_2 : tie.Need-put_each-at-requires-2
 put_each_requires_2 c κs =
@@ -47,16 +46,14 @@ put_each_requires_2 c κs =
 put_each_requires_3 : tie.Need-put_each-at-requires-3
 put_each_requires_3 c κs =
     let one = first (second c).before in
-    let start = one in
-    (start.requires.0, start.requires.1, room_for (links start.before.before 2) (pos 0 ∷ []) (further (links start.before.before 1) (further (links start.before.before 0) (begin start.before.before) one.put_each-at.ensures) (second c).put_each-at-2.ensures) start.requires.2)
+    (one.requires.0, one.requires.1, room_for (links one.before.before 2) (pos 0 ∷ []) (further (links one.before.before 1) (further (links one.before.before 0) (begin one.before.before) one.put_each-at.ensures) (second c).put_each-at-2.ensures) one.requires.2)
 
 put_signed_requires : tie.Need-put_signed-requires
 put_signed_requires c κs =
     let two = second (third c).before in
     let one = first two.before in
-    let start = one in
-    let left = further (links start.before.before 2) (further (links start.before.before 1) (further (links start.before.before 0) (begin start.before.before) one.put_each-at.ensures) two.put_each-at-2.ensures) (third c).put_each-at-3.ensures in
-    (omega arith, omega (arith, room left start.requires.2))
+    let left = further (links one.before.before 2) (further (links one.before.before 1) (further (links one.before.before 0) (begin one.before.before) one.put_each-at.ensures) two.put_each-at-2.ensures) (third c).put_each-at-3.ensures in
+    (omega arith, omega (arith, room left one.requires.2))
 
 same_length : tie.Need-shape_of-numbers
 same_length c = search rules
@@ -66,8 +63,7 @@ returns c =
     let three = third c.before.before in
     let two = second three.before in
     let one = first two.before in
-    let start = one in
-    done (further (pos 0 ∷ []) (further (links start.before.before 2) (further (links start.before.before 1) (further (links start.before.before 0) (begin start.before.before) one.put_each-at.ensures) two.put_each-at-2.ensures) three.put_each-at-3.ensures) c.put_signed.ensures)
+    done (further (pos 0 ∷ []) (further (links one.before.before 2) (further (links one.before.before 1) (further (links one.before.before 0) (begin one.before.before) one.put_each-at.ensures) two.put_each-at-2.ensures) three.put_each-at-3.ensures) c.put_signed.ensures)
 
 pub put_linking_spec : {M : Type 1} → statement M
 put_linking_spec =

@@ -30,8 +30,7 @@ slice_aggregate_put_level c = refl
 
 put_level_requires : tie.Need-put_level-begun-requires invariant_loop decreases_loop
 put_level_requires c κs =
-    let s = c in
-    rw (one_shifted s.args.origin (omega arith)) (pow-lt s.requires.0, s.requires.1, s.requires.2, refl)
+    rw (one_shifted c.args.origin (omega arith)) (pow-lt c.requires.0, c.requires.1, c.requires.2, refl)
 
 slice_write_waiting : tie.Need-bounds-waiting-0 invariant_loop decreases_loop
 slice_write_waiting c = let s = c in omega (arith, s.requires.3)
@@ -42,10 +41,9 @@ slice_write_distances c = let s = c in omega (arith, s.requires.4)
 loop_holds : tie.Need-loop-taken-init invariant_loop decreases_loop
 loop_holds c =
     let p = c.put_level-begun in
-    let s = c in
-    let level = one_shifted s.args.origin (omega arith) in
+    let level = one_shifted c.args.origin (omega arith) in
     rw level
-    (search_begun s.args.cheap.now s.args.writes.now s.args.origin s.requires.0 s.args.waiting.now s.args.distances.now s.requires.3 s.requires.4 p.new.row p.auto.row p.result.cheap p.result.written (rw level at p.ensures.0) (rw level at p.ensures.1) (rw level at p.ensures.2))
+    (search_begun c.args.cheap.now c.args.writes.now c.args.origin c.requires.0 c.args.waiting.now c.args.distances.now c.requires.3 c.requires.4 p.new.row p.auto.row p.result.cheap p.result.written (rw level at p.ensures.0) (rw level at p.ensures.1) (rw level at p.ensures.2))
 
 -- the function's entry, seen from the loop's head
 abbrev start : tie.At-loop-taken invariant_loop decreases_loop → tie.Start invariant_loop decreases_loop
@@ -79,14 +77,12 @@ chosen : (c : tie.Joined-met-seen invariant_loop decreases_loop)
     let h = l.loop-taken in
     Next (start l).args.cheap.now (start l).args.writes.now (start l).args.origin h.row h.waiting h.distances h.seen h.ahead h.distance h.put h.taken h.invariant c.if-met-seen.next
 chosen c =
-    let i = c in
-    let l = i in
-    let h = l.loop-taken in
+    let h = c.loop-taken in
     ⊎_elim
     (λ w. rw w.next-is
-    (next_waits (start l.before.before.before).args.cheap.now (start l.before.before.before).args.writes.now (start l.before.before.before).args.origin h.row h.waiting h.distances h.seen h.ahead h.distance h.put h.taken h.invariant i.loop-taken-test.true w.if-met-seen.true))
+    (next_waits (start c.before.before.before).args.cheap.now (start c.before.before.before).args.writes.now (start c.before.before.before).args.origin h.row h.waiting h.distances h.seen h.ahead h.distance h.put h.taken h.invariant c.loop-taken-test.true w.if-met-seen.true))
     (λ w. rw w.next-is
-    (next_on (start l.before.before.before).args.cheap.now (start l.before.before.before).args.writes.now (start l.before.before.before).args.origin h.row h.waiting h.distances h.seen h.ahead h.distance h.put h.taken h.invariant i.loop-taken-test.true w.if-met-seen.false))
+    (next_on (start c.before.before.before).args.cheap.now (start c.before.before.before).args.writes.now (start c.before.before.before).args.origin h.row h.waiting h.distances h.seen h.ahead h.distance h.put h.taken h.invariant c.loop-taken-test.true w.if-met-seen.false))
     c.if-met-seen.branch-raw
 
 -- what is met there
@@ -95,14 +91,12 @@ meeting : (c : tie.Joined-next-over invariant_loop decreases_loop)
     let h = l.loop-taken in
     Meeting (start l).args.cheap.now (start l).args.writes.now (start l).args.origin h.row h.waiting h.distances h.seen h.ahead h.distance h.put h.taken h.invariant c.if-met-seen.next c.if-next-over.met c.if-next-over.taken
 meeting c =
-    let i = c in
-    let l = i in
-    let h = l.loop-taken in
+    let h = c.loop-taken in
     ⊎_elim
     (λ w. rw (w.taken-is, w.met-is)
-    (meet_both (start l.before.before.before.before).args.cheap.now (start l.before.before.before.before).args.writes.now (start l.before.before.before.before).args.origin h.row h.waiting h.distances h.seen h.ahead h.distance h.put h.taken h.invariant i.loop-taken-test.true c.if-met-seen.next (chosen c.before) w.if-next-over.true))
+    (meet_both (start c.before.before.before.before).args.cheap.now (start c.before.before.before.before).args.writes.now (start c.before.before.before.before).args.origin h.row h.waiting h.distances h.seen h.ahead h.distance h.put h.taken h.invariant c.loop-taken-test.true c.if-met-seen.next (chosen c.before) w.if-next-over.true))
     (λ w. rw (w.taken-is, w.met-is)
-    (meet_ahead (start l.before.before.before.before).args.cheap.now (start l.before.before.before.before).args.writes.now (start l.before.before.before.before).args.origin h.row h.waiting h.distances h.seen h.ahead h.distance h.put h.taken h.invariant i.loop-taken-test.true c.if-met-seen.next (chosen c.before) w.if-next-over.false))
+    (meet_ahead (start c.before.before.before.before).args.cheap.now (start c.before.before.before.before).args.writes.now (start c.before.before.before.before).args.origin h.row h.waiting h.distances h.seen h.ahead h.distance h.put h.taken h.invariant c.loop-taken-test.true c.if-met-seen.next (chosen c.before) w.if-next-over.false))
     c.if-next-over.branch-raw
 
 -- nothing is new where the level is empty, and only there
@@ -122,10 +116,8 @@ new c = some_new c.if-next-over.met c.loop-taken.seen c.if-level-ne0.true
 -- there is room for the level
 room : (c : tie.Then-level-ne0 invariant_loop decreases_loop) → c.loop-taken.put < 48
 room c =
-    let m = c in
-    let l = m in
-    let h = l.loop-taken in
-    some_room (start l.before.before.before.before.before.before).args.cheap.now (start l.before.before.before.before.before.before).args.writes.now (start l.before.before.before.before.before.before).args.origin h.row h.waiting h.distances h.seen h.ahead h.distance h.put h.taken h.invariant m.if-met-seen.next m.if-next-over.met m.if-next-over.taken (meeting m.before.before) (new c)
+    let h = c.loop-taken in
+    some_room (start c.before.before.before.before.before.before).args.cheap.now (start c.before.before.before.before.before.before).args.writes.now (start c.before.before.before.before.before.before).args.origin h.row h.waiting h.distances h.seen h.ahead h.distance h.put h.taken h.invariant c.if-met-seen.next c.if-next-over.met c.if-next-over.taken (meeting c.before.before) (new c)
 
 -- and its distance is small
 small : (c : tie.Joined-next-over invariant_loop decreases_loop) → c.if-met-seen.next < 5000
@@ -139,18 +131,15 @@ slice_aggregate_put_level_2 c = sym c.loop-taken.invariant.rooms.0
 
 put_level_requires_2 : tie.Need-put_level-beyond-requires invariant_loop decreases_loop
 put_level_requires_2 c κs =
-    let m = c in
-    let l = m in
-    let h = l.loop-taken in
-    (xor_lt 48 m.if-next-over.met h.seen (meeting m.before.before.before.before).small h.invariant.seen_small, (start l.before.before.before.before.before.before.before.before).requires.1, (start l.before.before.before.before.before.before.before.before).requires.2, h.invariant.rooms.0)
+    let h = c.loop-taken in
+    (xor_lt 48 c.if-next-over.met h.seen (meeting c.before.before.before.before).small h.invariant.seen_small, (start c.before.before.before.before.before.before.before.before).requires.1, (start c.before.before.before.before.before.before.before.before).requires.2, h.invariant.rooms.0)
 
 mul_waiting : tie.Need-offset_bounds-waiting-put invariant_loop decreases_loop
 mul_waiting c = omega (arith, room c.before.before.before.before)
 
 slice_write_waiting_2 : tie.Need-bounds-waiting-put invariant_loop decreases_loop
 slice_write_waiting_2 c =
-    let t = c in
-    omega (arith, room t.before.before.before.before, t.loop-taken.invariant.rooms.1)
+    omega (arith, room c.before.before.before.before, c.loop-taken.invariant.rooms.1)
 
 add_distances : tie.Need-overflow_add-distances invariant_loop decreases_loop
 add_distances c = omega (arith, small c.before.before.before.before.before.before)
@@ -160,27 +149,21 @@ mul_distances c = omega (arith, room c.before.before.before.before)
 
 slice_write_distances_2 : tie.Need-bounds-distances-put invariant_loop decreases_loop
 slice_write_distances_2 c =
-    let t = c in
-    omega (arith, room t.before.before.before.before, t.loop-taken.invariant.rooms.2)
+    omega (arith, room c.before.before.before.before, c.loop-taken.invariant.rooms.2)
 
 add_put : tie.Need-overflow_add-put invariant_loop decreases_loop
 add_put c = omega (arith, room c.before.before.before.before)
 
 loop_less : tie.Need-loop-taken-smaller-then-level-ne0 invariant_loop decreases_loop
 loop_less c =
-    let t = c in
-    let m = t in
-    let h = m.loop-taken in
-    omega (arith, room t.before.before.before.before, (meeting m.before.before.before.before.before.before).from, (meeting m.before.before.before.before.before.before).order)
+    let h = c.loop-taken in
+    omega (arith, room c.before.before.before.before, (meeting c.before.before.before.before.before.before).from, (meeting c.before.before.before.before.before.before).order)
 
 loop_again : tie.Need-loop-taken-preserved-then-level-ne0 invariant_loop decreases_loop
 loop_again c =
-    let t = c in
-    let m = t in
-    let l = m in
-    let h = l.loop-taken in
+    let h = c.loop-taken in
     let p = c.put_level-beyond in
-    met_level (start l.before.before.before.before.before.before.before.before.before.before).args.cheap.now (start l.before.before.before.before.before.before.before.before.before.before).args.writes.now (start l.before.before.before.before.before.before.before.before.before.before).args.origin h.row h.waiting h.distances h.seen h.ahead h.distance h.put h.taken h.invariant m.if-met-seen.next m.if-next-over.met m.if-next-over.taken (meeting m.before.before.before.before.before.before) (new t.before.before.before.before)
+    met_level (start c.before.before.before.before.before.before.before.before.before.before).args.cheap.now (start c.before.before.before.before.before.before.before.before.before.before).args.writes.now (start c.before.before.before.before.before.before.before.before.before.before).args.origin h.row h.waiting h.distances h.seen h.ahead h.distance h.put h.taken h.invariant c.if-met-seen.next c.if-next-over.met c.if-next-over.taken (meeting c.before.before.before.before.before.before) (new c.before.before.before.before)
     p.new.row p.result.cheap p.result.written (p.auto.row ∙ h.invariant.rooms.0) p.ensures.0 p.ensures.1 p.ensures.2
 
 -- nothing is new
@@ -189,16 +172,13 @@ nothing c = same_met c.if-next-over.met c.loop-taken.seen c.if-level-ne0.false
 
 loop_less_2 : tie.Need-loop-taken-smaller invariant_loop decreases_loop
 loop_less_2 c =
-    let m = c in
-    let h = m.loop-taken in
-    omega (arith, (meeting m.before.before).moves (nothing c), m.loop-taken-test.true, h.invariant.many, marks_most h.seen)
+    let h = c.loop-taken in
+    omega (arith, (meeting c.before.before).moves (nothing c), c.loop-taken-test.true, h.invariant.many, marks_most h.seen)
 
 loop_again_2 : tie.Need-loop-taken-preserved invariant_loop decreases_loop
 loop_again_2 c =
-    let m = c in
-    let l = m in
-    let h = l.loop-taken in
-    met_nothing (start l.before.before.before.before.before.before).args.cheap.now (start l.before.before.before.before.before.before).args.writes.now (start l.before.before.before.before.before.before).args.origin h.row h.waiting h.distances h.seen h.ahead h.distance h.put h.taken h.invariant m.if-met-seen.next m.if-next-over.met m.if-next-over.taken (meeting m.before.before) (nothing c)
+    let h = c.loop-taken in
+    met_nothing (start c.before.before.before.before.before.before).args.cheap.now (start c.before.before.before.before.before.before).args.writes.now (start c.before.before.before.before.before.before).args.origin h.row h.waiting h.distances h.seen h.ahead h.distance h.put h.taken h.invariant c.if-met-seen.next c.if-next-over.met c.if-next-over.taken (meeting c.before.before) (nothing c)
 
 same_length : tie.Need-shape_of-waiting invariant_loop decreases_loop
 same_length c = c.loop-taken.invariant.rooms.1 ∙ sym (start c.before).requires.3
@@ -208,9 +188,8 @@ same_length_2 c = c.loop-taken.invariant.rooms.2 ∙ sym (start c.before).requir
 
 returns : tie.Need-returns invariant_loop decreases_loop
 returns c =
-    let l = c in
-    let h = l.loop-taken in
-    search_ended (start l.before).args.cheap.now (start l.before).args.writes.now (start l.before).args.origin h.row h.waiting h.distances h.seen h.ahead h.distance h.put h.taken h.invariant (omega (arith, h.invariant.order, c.loop-taken-test.false))
+    let h = c.loop-taken in
+    search_ended (start c.before).args.cheap.now (start c.before).args.writes.now (start c.before).args.origin h.row h.waiting h.distances h.seen h.ahead h.distance h.put h.taken h.invariant (omega (arith, h.invariant.order, c.loop-taken-test.false))
 
 pub distances_from_spec : {M : Type 1} → statement M
 distances_from_spec =

@@ -43,11 +43,8 @@ inside c = omega (arith, c.loop-k-test.true, c.requires.0.few, c.requires.0.long
 -- the ends of a way that is open are array terms
 ends : (c : tie.Then-open invariant_loop decreases_loop) → (c.open_way-way.result.left < 48) × (c.open_way-way.result.right < 48)
 ends c =
-    let o = c in
-    let i = o in
-    let s = i in
-    let k = i.loop-k.k in
-    way_ends s.args.values.now s.args.truths.now s.args.x (get_or s.args.edges.now k 0) o.open_way-way.result o.open_way-way.ensures c.if-open.true (s.requires.0.ends k i.loop-k-test.true)
+    let k = c.loop-k.k in
+    way_ends c.args.values.now c.args.truths.now c.args.x (get_or c.args.edges.now k 0) c.open_way-way.result c.open_way-way.ensures c.if-open.true (c.requires.0.ends k c.loop-k-test.true)
 
 set_edge_requires : tie.Need-set_edge-requires invariant_loop decreases_loop
 set_edge_requires c κs = ends c.before.before
@@ -63,13 +60,10 @@ loop_less c = omega arith
 
 loop_again : tie.Need-loop-k-preserved invariant_loop decreases_loop
 loop_again c =
-    let o = c in
-    let i = o in
-    let h = i.loop-k in
-    let s = i in
-    let way = o.open_way-way.result in
-    let by = sorted s.args.values.now s.args.truths.now s.args.x s.args.edges.now h.k (inside i.before.before.before.before) way o.open_way-way.ensures h.cheap h.writes h.invariant.1 (s.requires.0.ends h.k i.loop-k-test.true) in (
-      omega (arith, i.loop-k-test.true),
+    let h = c.loop-k in
+    let way = c.open_way-way.result in
+    let by = sorted c.args.values.now c.args.truths.now c.args.x c.args.edges.now h.k (inside c.before.before.before.before) way c.open_way-way.ensures h.cheap h.writes h.invariant.1 (c.requires.0.ends h.k c.loop-k-test.true) in (
+      omega (arith, c.loop-k-test.true),
       ⊎_elim
           (λ w. rw (w.cheap-is, w.writes-is ∙ w.set_edge.ensures) (by.1 w.if-open.true w.if-tag-eq-DIFFER.true))
           (⊎_elim
@@ -80,9 +74,8 @@ loop_again c =
 
 returns : tie.Need-returns invariant_loop decreases_loop
 returns c =
-    let s = c in
-    let ended : c.loop-k.k ≡ s.args.count = omega arith in
-    subst (λ (k : ℕ). Sorted (concat_map (open_in s.args.values.now s.args.truths.now s.args.x) (take k s.args.edges.now)) c.loop-k.cheap c.loop-k.writes) ended c.loop-k.invariant.1
+    let ended : c.loop-k.k ≡ c.args.count = omega arith in
+    subst (λ (k : ℕ). Sorted (concat_map (open_in c.args.values.now c.args.truths.now c.args.x) (take k c.args.edges.now)) c.loop-k.cheap c.loop-k.writes) ended c.loop-k.invariant.1
 
 pub sort_edges_spec : {M : Type 1} → statement M
 sort_edges_spec =

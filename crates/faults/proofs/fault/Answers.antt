@@ -19,10 +19,9 @@ returns-in-FreeBase c = rw (c.in-FreeBase.is, c.choose.ensures, c.reached.ensure
 
 pub returns-in-FreeBoolean : goal.returns-in-FreeBoolean
 returns-in-FreeBoolean c =
-    let f = c in
-    let args = f.args in
-    rw (f.in-FreeBoolean.is, c.choose-in-FreeBoolean-2.ensures, c.choose-in-FreeBoolean.ensures, c.either.ensures, c.above_one.ensures, c.reached-in-FreeBoolean.ensures)
-    (sym (boolean_fault args.reads.now args.values.now args.counts f.in-FreeBoolean.truth))
+    let args = c.args in
+    rw (c.in-FreeBoolean.is, c.choose-in-FreeBoolean-2.ensures, c.choose-in-FreeBoolean.ensures, c.either.ensures, c.above_one.ensures, c.reached-in-FreeBoolean.ensures)
+    (sym (boolean_fault args.reads.now args.values.now args.counts c.in-FreeBoolean.truth))
 
 pub returns-in-Variable : goal.returns-in-Variable
 returns-in-Variable c = rw (c.in-Variable.is, c.choose-in-Variable.ensures, c.reached-in-Variable.ensures)

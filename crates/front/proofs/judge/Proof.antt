@@ -30,15 +30,13 @@ cast_arrays c = search rules
 
 rule_alone_requires : tie.Need-rule_alone-ruling-requires
 rule_alone_requires c κs =
-    let e = c in
-    let loads = e.load-loaded.ensures in
-    (within loads.holds (has_graph loads e.if-refusal-ne0.false (small e.before.before.before.before.before)), rows_suffice loads e.if-refusal-ne0.false (small e.before.before.before.before.before))
+    let loads = c.load-loaded.ensures in
+    (within loads.holds (has_graph loads c.if-refusal-ne0.false (small c.before.before.before.before.before)), rows_suffice loads c.if-refusal-ne0.false (small c.before.before.before.before.before))
 
 returns_2 : tie.Need-returns
 returns_2 c =
-    let e = c in
-    let loads = e.load-loaded.ensures in
-    record { query = loads.query; holds = loads.holds; loaded = loads.loaded; graph = λ accepted. has_graph loads accepted (small e.before.before.before.before.before.before); ruled = λ accepted. c.rule_alone-ruling.ensures }
+    let loads = c.load-loaded.ensures in
+    record { query = loads.query; holds = loads.holds; loaded = loads.loaded; graph = λ accepted. has_graph loads accepted (small c.before.before.before.before.before.before); ruled = λ accepted. c.rule_alone-ruling.ensures }
 
 pub judge_spec : {M : Type 1} → statement M
 judge_spec =

@@ -8,9 +8,7 @@ mark-pairs-requires c = c.requires.unmarked
 
 pub first_pair-found-requires : goal.first_pair-found-requires
 first_pair-found-requires c =
-    let m = c in
-    let s = m in
-    searchable s.args.values.now s.args.truths.now s.args.rows.now m.mark-pairs.new.rows s.requires m.mark-pairs.ensures m.mark-pairs.auto.rows m.mark-pairs.auto.next
+    searchable c.args.values.now c.args.truths.now c.args.rows.now c.mark-pairs.new.rows c.requires c.mark-pairs.ensures c.mark-pairs.auto.rows c.mark-pairs.auto.next
 
 pub returns : goal.returns
 returns c =

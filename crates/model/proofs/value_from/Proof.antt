@@ -36,24 +36,19 @@ origin_of_requires c κs = tt
 
 holds_requires : tie.Need-holds-requires invariant_loop decreases_loop
 holds_requires c κs =
-    let i = c in
-    subst (λ (o : ℕ). o < 48) (sym c.origin_of-origin.ensures) (i.requires.1 i.loop-k.k i.loop-k-test.true)
+    subst (λ (o : ℕ). o < 48) (sym c.origin_of-origin.ensures) (c.requires.1 c.loop-k.k c.loop-k-test.true)
 
 -- the test of a source, seen from its answer
 tested : (h : tie.After-holds invariant_loop decreases_loop) → holds_at (lent_to h.before.before.before.before.before.before.before) h.args.row h.args.index h.loop-k.k ≡ h.holds.result
 tested h =
-    let s = h in
-    sym (h.holds.ensures ∙ ap₂ (λ (value origin : ℕ). holds_of value s.args.index s.args.row origin) h.index_value-value.ensures h.origin_of-origin.ensures)
+    sym (h.holds.ensures ∙ ap₂ (λ (value origin : ℕ). holds_of value h.args.index h.args.row origin) h.index_value-value.ensures h.origin_of-origin.ensures)
 
 assigned_value_requires : tie.Need-assigned_value-requires invariant_loop decreases_loop
 assigned_value_requires c κs = tt
 
 returns : tie.Need-returns-then-holds invariant_loop decreases_loop
 returns c =
-    let h = c in
-    let i = h in
-    let s = i in
-    c.assigned_value.ensures ∙ left_found (lent_to s.before.before.before.before.before.before.before.before.before) s.args.row s.args.index i.loop-k.k i.loop-k-test.true (tested h.before.before ∙ c.if-holds.true) i.loop-k.invariant.1
+    c.assigned_value.ensures ∙ left_found (lent_to c.before.before.before.before.before.before.before.before.before) c.args.row c.args.index c.loop-k.k c.loop-k-test.true (tested c.before.before ∙ c.if-holds.true) c.loop-k.invariant.1
 
 add_k : tie.Need-overflow_add-k invariant_loop decreases_loop
 add_k c = omega arith
@@ -63,10 +58,7 @@ loop_less c = omega arith
 
 loop_again : tie.Need-loop-k-preserved invariant_loop decreases_loop
 loop_again c =
-    let h = c in
-    let i = h in
-    let s = i in
-    (omega arith, left_next (lent_to s.before.before.before.before.before.before.before.before) s.args.row s.args.index i.loop-k.k i.loop-k-test.true (tested h.before ∙ c.if-holds.false) i.loop-k.invariant.1)
+    (omega arith, left_next (lent_to c.before.before.before.before.before.before.before.before) c.args.row c.args.index c.loop-k.k c.loop-k-test.true (tested c.before ∙ c.if-holds.false) c.loop-k.invariant.1)
 
 returns_2 : tie.Need-returns invariant_loop decreases_loop
 returns_2 c = left_none (lent_to c.before.before) _ _ _ c.loop-k-test.false c.loop-k.invariant.1

@@ -39,11 +39,8 @@ inside c = omega (arith, c.loop-k-test.true, c.requires.0.few, c.requires.0.long
 
 set_edge_requires : tie.Need-set_edge-requires invariant_loop decreases_loop
 set_edge_requires c κs =
-    let o = c in
-    let i = o in
-    let h = i.loop-k in
-    let s = i in
-    way_ends s.args.values.now s.args.truths.now s.args.x (get_or s.args.edges.now h.k 0) o.open_way-way.result o.open_way-way.ensures c.if-open.true (s.requires.0.ends h.k i.loop-k-test.true)
+    let h = c.loop-k in
+    way_ends c.args.values.now c.args.truths.now c.args.x (get_or c.args.edges.now h.k 0) c.open_way-way.result c.open_way-way.ensures c.if-open.true (c.requires.0.ends h.k c.loop-k-test.true)
 
 add_k : tie.Need-overflow_add-k invariant_loop decreases_loop
 add_k c = omega (arith, c.requires.0.few)
@@ -53,30 +50,26 @@ loop_less c = omega arith
 
 loop_again : tie.Need-loop-k-preserved invariant_loop decreases_loop
 loop_again c =
-    let o = c in
-    let i = o in
-    let h = i.loop-k in
-    let s = i in
-    let f = open_in s.args.values.now s.args.truths.now s.args.x in
+    let h = c.loop-k in
+    let f = open_in c.args.values.now c.args.truths.now c.args.x in
     ⊎_elim
     (λ w.
     let put = w.words-is ∙ w.set_edge.ensures in (
-      omega (arith, i.loop-k-test.true),
-      subst (Adjacent (concat_map f (take (h.k + 1) s.args.edges.now))) (sym put)
-          (way_open s.args.values.now s.args.truths.now s.args.x s.args.edges.now h.k h.words h.invariant.1 (inside i.before.before.before.before) o.open_way-way.result o.open_way-way.ensures w.if-open.true (s.requires.0.ends h.k i.loop-k-test.true)),
+      omega (arith, c.loop-k-test.true),
+      subst (Adjacent (concat_map f (take (h.k + 1) c.args.edges.now))) (sym put)
+          (way_open c.args.values.now c.args.truths.now c.args.x c.args.edges.now h.k h.words h.invariant.1 (inside c.before.before.before.before) c.open_way-way.result c.open_way-way.ensures w.if-open.true (c.requires.0.ends h.k c.loop-k-test.true)),
     ))
     (λ w. (
-      omega (arith, i.loop-k-test.true),
-      subst (Adjacent (concat_map f (take (h.k + 1) s.args.edges.now))) (sym w.words-is)
-          (way_shut s.args.values.now s.args.truths.now s.args.x s.args.edges.now h.k h.words h.invariant.1 (inside i.before.before.before.before) o.open_way-way.result o.open_way-way.ensures w.if-open.false),
+      omega (arith, c.loop-k-test.true),
+      subst (Adjacent (concat_map f (take (h.k + 1) c.args.edges.now))) (sym w.words-is)
+          (way_shut c.args.values.now c.args.truths.now c.args.x c.args.edges.now h.k h.words h.invariant.1 (inside c.before.before.before.before) c.open_way-way.result c.open_way-way.ensures w.if-open.false),
     ))
     c.if-open.branch-raw
 
 returns : tie.Need-returns invariant_loop decreases_loop
 returns c =
-    let s = c in
-    let ended : c.loop-k.k ≡ s.args.count = omega arith in
-    subst (λ (k : ℕ). Adjacent (concat_map (open_in s.args.values.now s.args.truths.now s.args.x) (take k s.args.edges.now)) c.loop-k.words) ended c.loop-k.invariant.1
+    let ended : c.loop-k.k ≡ c.args.count = omega arith in
+    subst (λ (k : ℕ). Adjacent (concat_map (open_in c.args.values.now c.args.truths.now c.args.x) (take k c.args.edges.now)) c.loop-k.words) ended c.loop-k.invariant.1
 
 pub adjacency_spec : {M : Type 1} → statement M
 adjacency_spec =

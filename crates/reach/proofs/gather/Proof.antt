@@ -26,11 +26,8 @@ inside c = omega (arith, c.loop-k-test.true, c.requires.0.few, c.requires.0.long
 -- the ends of a way that is open are array terms
 ends : (c : tie.Then-open invariant_loop decreases_loop) → (c.way_of-way.result.left < 48) × (c.way_of-way.result.right < 48)
 ends c =
-    let o = c in
-    let i = o in
-    let h = i.loop-k in
-    let s = i in
-    way_ends [] s.args.truths.now 1 (get_or s.args.edges.now h.k 0) o.way_of-way.result o.way_of-way.ensures c.if-open.true (s.requires.0.ends h.k i.loop-k-test.true)
+    let h = c.loop-k in
+    way_ends [] c.args.truths.now 1 (get_or c.args.edges.now h.k 0) c.way_of-way.result c.way_of-way.ensures c.if-open.true (c.requires.0.ends h.k c.loop-k-test.true)
 
 -- the same of what is equal
 gathered_same : {truths rows : List ℕ} (k : ℕ) {words words' : List ℕ} {again again' : ℕ} → words' ≡ words → again' ≡ again → Gathered truths rows k words again → Gathered truths rows k words' again'
@@ -59,8 +56,7 @@ shr_shifted c = omega (arith, (ends c.before.before).1)
 
 add_again : tie.Need-overflow_add-again invariant_loop decreases_loop
 add_again c =
-    let l = c in
-    omega (arith, l.loop-k.invariant.1, l.loop-k.invariant.0, l.requires.0.few)
+    omega (arith, c.loop-k.invariant.1, c.loop-k.invariant.0, c.requires.0.few)
 
 set_edge_requires : tie.Need-set_edge-requires invariant_loop decreases_loop
 set_edge_requires c κs = ends c.before.before.before
@@ -73,30 +69,26 @@ loop_less c = omega arith
 
 loop_again : tie.Need-loop-k-preserved invariant_loop decreases_loop
 loop_again c =
-    let o = c in
-    let i = o in
-    let h = i.loop-k in
-    let s = i in
-    let way = o.way_of-way.result in
+    let h = c.loop-k in
+    let way = c.way_of-way.result in
     ⊎_elim
     (λ w. (
-      omega (arith, i.loop-k-test.true),
+      omega (arith, c.loop-k-test.true),
       omega (arith, w.again-is, h.invariant.1),
       gathered_same _ (w.words-is ∙ w.set_edge.ensures) w.again-is
-          (gathered_open s.args.truths.now s.args.edges.now h.k h.again h.words h.invariant.2 (inside i.before.before.before.before) way o.way_of-way.ensures w.if-open.true (s.requires.0.ends h.k i.loop-k-test.true)),
+          (gathered_open c.args.truths.now c.args.edges.now h.k h.again h.words h.invariant.2 (inside c.before.before.before.before) way c.way_of-way.ensures w.if-open.true (c.requires.0.ends h.k c.loop-k-test.true)),
     ))
     (λ w. (
-      omega (arith, i.loop-k-test.true),
+      omega (arith, c.loop-k-test.true),
       omega (arith, w.again-is, h.invariant.1),
-      gathered_same _ w.words-is w.again-is (gathered_shut s.args.truths.now s.args.edges.now h.k h.again h.words h.invariant.2 (inside i.before.before.before.before) way o.way_of-way.ensures w.if-open.false),
+      gathered_same _ w.words-is w.again-is (gathered_shut c.args.truths.now c.args.edges.now h.k h.again h.words h.invariant.2 (inside c.before.before.before.before) way c.way_of-way.ensures w.if-open.false),
     ))
     c.if-open.branch-raw
 
 returns : tie.Need-returns invariant_loop decreases_loop
 returns c =
-    let s = c in
-    let ended : c.loop-k.k ≡ s.args.count = omega arith in
-    subst (λ (k : ℕ). Gathered s.args.truths.now s.args.edges.now k c.loop-k.words c.loop-k.again) ended c.loop-k.invariant.2
+    let ended : c.loop-k.k ≡ c.args.count = omega arith in
+    subst (λ (k : ℕ). Gathered c.args.truths.now c.args.edges.now k c.loop-k.words c.loop-k.again) ended c.loop-k.invariant.2
 
 pub gather_spec : {M : Type 1} → statement M
 gather_spec =

@@ -60,8 +60,7 @@ gather_requires c κs = (lent_most c.requires.within.lent, refl)
 
 loop_holds : tie.Need-loop-first-init invariant_loop decreases_loop
 loop_holds c =
-    let s = c in
-    (omega arith, refl, refl, none_met (opened s.before.before.before.before) (lent_to s.before.before.before.before) s.args.arrays (rows_in s.args.rows.now) s.args.next.now s.requires.free, turn_first s.args.values.now s.args.truths.now s.args.edges.now s.args.ways _ (enough s.before.before.before.before) 0 c.gather-again.ensures.adjacent)
+    (omega arith, refl, refl, none_met (opened c.before.before.before.before) (lent_to c.before.before.before.before) c.args.arrays (rows_in c.args.rows.now) c.args.next.now c.requires.free, turn_first c.args.values.now c.args.truths.now c.args.edges.now c.args.ways _ (enough c.before.before.before.before) 0 c.gather-again.ensures.adjacent)
 
 mul_link : tie.Need-offset_bounds-next-first invariant_loop decreases_loop
 mul_link c = omega (arith, (start c.before).requires.within.sources)
@@ -80,33 +79,27 @@ index_value_requires c κs = search rules
 
 turn_requires : tie.Need-turn-requires invariant_loop decreases_loop
 turn_requires c κs =
-    let l = c in
-    (lent_most (start l.before.before.before.before.before.before.before).requires.within.lent, l.gather-again.ensures.apart, l.loop-first.invariant.4)
+    (lent_most (start c.before.before.before.before.before.before.before).requires.within.lent, c.gather-again.ensures.apart, c.loop-first.invariant.4)
 
 mark_value_requires : tie.Need-mark_value-marked-requires invariant_loop decreases_loop
 mark_value_requires c κs =
-    let i = c in
-    let l = i in
-    let h = l.loop-first in
-    let s = start l.before.before.before.before.before.before.before.before.before.before.before in
+    let h = c.loop-first in
+    let s = start c.before.before.before.before.before.before.before.before.before.before.before in
     record {
       narrow = c.turn.ensures.small;
       sources = s.requires.within.sources;
       origin = λ k given. omega (arith, s.requires.within.origin k given, s.requires.within.lent.arrays);
-      first_of = first_of (opened s) (lent_to s) s.args.arrays (rows_in h.rows) h.next h.first h.pairs h.invariant.3 i.loop-first-test.true i.if-link-eq0.true;
+      first_of = first_of (opened s) (lent_to s) s.args.arrays (rows_in h.rows) h.next h.first h.pairs h.invariant.3 c.loop-first-test.true c.if-link-eq0.true;
       rows_long = omega (arith, rows_length h.rows, rows_length s.args.rows.now, h.invariant.1, s.requires.rows_long);
       next_long = omega (arith, h.invariant.2, s.requires.next_long);
     }
 
 add_pairs : tie.Need-overflow_add-pairs invariant_loop decreases_loop
 add_pairs c =
-    let m = c in
-    let v = m in
-    let l = v in
-    let s = start l.before.before.before.before.before.before.before.before.before.before.before.before.before.before.before.before in
+    let s = start c.before.before.before.before.before.before.before.before.before.before.before.before.before.before.before.before in
     let few = s.requires.within.lent.arrays in
-    let marked = m.mark_value-marked.ensures (opened s) s.args.arrays (fit s) (at_value s v.index_value-x.ensures m.turn.ensures) in
-    omega (arith, met_most (opened s) (lent_to s) s.args.arrays few s.requires.within.sources l.loop-first.invariant.3, value_most (opened s) (lent_to s) s.args.arrays few s.requires.within.sources marked)
+    let marked = c.mark_value-marked.ensures (opened s) s.args.arrays (fit s) (at_value s c.index_value-x.ensures c.turn.ensures) in
+    omega (arith, met_most (opened s) (lent_to s) s.args.arrays few s.requires.within.sources c.loop-first.invariant.3, value_most (opened s) (lent_to s) s.args.arrays few s.requires.within.sources marked)
 
 add_first : tie.Need-overflow_add-first invariant_loop decreases_loop
 add_first c = omega arith
@@ -116,9 +109,8 @@ loop_less c = omega arith
 
 loop_again : tie.Need-loop-first-preserved invariant_loop decreases_loop
 loop_again c =
-    let l = c in
-    let h = l.loop-first in
-    let s = start l.before.before.before in
+    let h = c.loop-first in
+    let s = start c.before.before.before in
     let n = s.args.arrays in
     let given = c.loop-first-test.true in
     ⊎_elim

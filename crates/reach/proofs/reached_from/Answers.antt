@@ -12,11 +12,9 @@ adjacency-requires c = (lent_most c.requires.0, refl)
 
 pub spread_from-made-requires : goal.spread_from-made-requires
 spread_from-made-requires c =
-    let s = c in
-    (omega (arith, s.requires.0.arrays, s.requires.1), c.adjacency.ensures.small)
+    (omega (arith, c.requires.0.arrays, c.requires.1), c.adjacency.ensures.small)
 
 pub returns : goal.returns
 returns c =
-    let s = c in
-    let e = open_to s.args.values.now s.args.truths.now s.args.edges.now s.args.count in
-    row_of e s.args.arrays s.args.x (lent_ends s.requires.0 s.args.values.now s.args.truths.now) _ c.adjacency.ensures s.args.array s.requires.1 c.spread_from-made.result c.spread_from-made.ensures
+    let e = open_to c.args.values.now c.args.truths.now c.args.edges.now c.args.count in
+    row_of e c.args.arrays c.args.x (lent_ends c.requires.0 c.args.values.now c.args.truths.now) _ c.adjacency.ensures c.args.array c.requires.1 c.spread_from-made.result c.spread_from-made.ensures

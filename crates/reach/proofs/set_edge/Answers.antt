@@ -8,5 +8,4 @@ use Rattle.reach.proofs.set_edge.Goals as goal
 
 pub returns : goal.returns
 returns c =
-    let s = c in
-    c.set_bit-2.ensures ∙ ap (λ (l : List ℕ). bit_set s.args.on l s.args.right s.args.left) c.set_bit.ensures
+    c.set_bit-2.ensures ∙ ap (λ (l : List ℕ). bit_set c.args.on l c.args.right c.args.left) c.set_bit.ensures

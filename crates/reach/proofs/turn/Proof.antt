@@ -34,23 +34,17 @@ loop_less : tie.Need-loop-k-smaller invariant_loop decreases_loop
 loop_less c = omega (arith, c.loop-k-test.true)
 
 loop_again : tie.Need-loop-k-preserved invariant_loop decreases_loop
-loop_again c =
-    let i = c in
-    let l = i in
-    let e = l in
-    let s = e in (
-      omega (arith, i.loop-k-test.true),
-      turn_row s.args.values.now s.args.truths.now s.args.edges.now s.args.count s.args.before s.args.x l.loop-k.k s.requires.0 i.loop-k-test.true (s.requires.1 e.if-again-ne0.false)
-          l.loop-k.words _ l.loop-k.invariant.1 c.turn_row.ensures,
-    )
+loop_again c = (
+  omega (arith, c.loop-k-test.true),
+  turn_row c.args.values.now c.args.truths.now c.args.edges.now c.args.count c.args.before c.args.x c.loop-k.k c.requires.0 c.loop-k-test.true (c.requires.1 c.if-again-ne0.false)
+      c.loop-k.words _ c.loop-k.invariant.1 c.turn_row.ensures,
+)
 
 returns_2 : tie.Need-returns invariant_loop decreases_loop
 returns_2 c =
-    let l = c in
-    let s = l in
-    let ended : l.loop-k.k ≡ s.args.count = omega (arith, l.loop-k.invariant.0) in
-    turn_ended s.args.values.now s.args.truths.now s.args.edges.now s.args.count l.loop-k.words (omega (arith, s.requires.0.few, s.requires.0.long)) s.args.before s.args.x
-    (subst (λ (k : ℕ). Turning (edges_at s.args.values.now s.args.truths.now s.args.edges.now s.args.x) (may_at s.args.truths.now s.args.edges.now) (shut_at s.args.values.now s.args.edges.now s.args.before) s.args.count k l.loop-k.words) ended l.loop-k.invariant.1)
+    let ended : c.loop-k.k ≡ c.args.count = omega (arith, c.loop-k.invariant.0) in
+    turn_ended c.args.values.now c.args.truths.now c.args.edges.now c.args.count c.loop-k.words (omega (arith, c.requires.0.few, c.requires.0.long)) c.args.before c.args.x
+    (subst (λ (k : ℕ). Turning (edges_at c.args.values.now c.args.truths.now c.args.edges.now c.args.x) (may_at c.args.truths.now c.args.edges.now) (shut_at c.args.values.now c.args.edges.now c.args.before) c.args.count k c.loop-k.words) ended c.loop-k.invariant.1)
 
 pub turn_spec : {M : Type 1} → statement M
 turn_spec =

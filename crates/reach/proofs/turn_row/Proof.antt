@@ -32,34 +32,27 @@ shut_to_requires_2 c κs = search rules
 
 set_edge_requires : tie.Need-set_edge-requires
 set_edge_requires c κs =
-    let t = c in
-    let s = start t.before.before in
-    rw (t.left_of-left.ensures, t.right_of-right.ensures)
-    (write_ends s.requires.0 s.args.k s.requires.1 (shut_write s.args.values.now [] _ s.args.x (sym t.shut_to-shut.ensures ∙ c.if-shut.true)))
+    let s = start c.before.before in
+    rw (c.left_of-left.ensures, c.right_of-right.ensures)
+    (write_ends s.requires.0 s.args.k s.requires.1 (shut_write s.args.values.now [] _ s.args.x (sym c.shut_to-shut.ensures ∙ c.if-shut.true)))
 
 returns : tie.Need-returns-then-shut
 returns c =
-    let h = c in
-    let t = h in
-    rw (sym t.shut_to-shut.ensures ∙ h.if-shut.true, ← t.left_of-left.ensures, ← t.right_of-right.ensures) c.set_edge.ensures
+    rw (sym c.shut_to-shut.ensures ∙ c.if-shut.true, ← c.left_of-left.ensures, ← c.right_of-right.ensures) c.set_edge.ensures
 
 set_edge_requires_2 : tie.Need-set_edge-requires-then-opened
 set_edge_requires_2 c κs =
-    let t = c in
-    let s = start t.before.before.before in
-    rw (t.left_of-left.ensures, t.right_of-right.ensures)
-    (write_ends s.requires.0 s.args.k s.requires.1 (shut_write s.args.values.now [] _ s.args.before (sym t.shut_to-opened.ensures ∙ c.if-opened.true)))
+    let s = start c.before.before.before in
+    rw (c.left_of-left.ensures, c.right_of-right.ensures)
+    (write_ends s.requires.0 s.args.k s.requires.1 (shut_write s.args.values.now [] _ s.args.before (sym c.shut_to-opened.ensures ∙ c.if-opened.true)))
 
 returns_2 : tie.Need-returns-then-opened
 returns_2 c =
-    let h = c in
-    let t = h in
-    rw (sym t.shut_to-shut.ensures ∙ h.if-shut.false, sym t.shut_to-opened.ensures ∙ h.if-opened.true, ← t.left_of-left.ensures, ← t.right_of-right.ensures) c.set_edge-then-opened.ensures
+    rw (sym c.shut_to-shut.ensures ∙ c.if-shut.false, sym c.shut_to-opened.ensures ∙ c.if-opened.true, ← c.left_of-left.ensures, ← c.right_of-right.ensures) c.set_edge-then-opened.ensures
 
 returns_3 : tie.Need-returns-else-opened
 returns_3 c =
-    let t = c in
-    rw (sym t.shut_to-shut.ensures ∙ c.if-shut.false, sym t.shut_to-opened.ensures ∙ c.if-opened.false)
+    rw (sym c.shut_to-shut.ensures ∙ c.if-shut.false, sym c.shut_to-opened.ensures ∙ c.if-opened.false)
 
 pub turn_row_spec : {M : Type 1} → statement M
 turn_row_spec =

@@ -72,14 +72,11 @@ stands r = sym (fielded r).field_at.ensures ∙ ap standing_of (fielded r).in-Ne
 
 returns_4 : tie.Need-returns-then-found-ne0 invariant_loop decreases_loop
 returns_4 c =
-    let r = c in
-    at_fault (head r.before).loop-refused.invariant (field r.before) (next r.before) r.fault-found.result (stands r.before) r.fault-found.ensures c.if-found-ne0.true
+    at_fault (head c.before).loop-refused.invariant (field c.before) (next c.before) c.fault-found.result (stands c.before) c.fault-found.ensures c.if-found-ne0.true
 
 put_requires : tie.Need-put-counts-requires invariant_loop decreases_loop
 put_requires c κs =
-    let e = c in
-    let r = e in
-    at_room (head r.before.before.before.before.before.before).loop-refused.invariant (field r.before.before.before.before.before.before) (next r.before.before.before.before.before.before) r.fault-found.result (stands r.before.before.before.before.before.before) r.fault-found.ensures e.if-found-ne0.false
+    at_room (head c.before.before.before.before.before.before).loop-refused.invariant (field c.before.before.before.before.before.before) (next c.before.before.before.before.before.before) c.fault-found.result (stands c.before.before.before.before.before.before) c.fault-found.ensures c.if-found-ne0.false
 
 -- the tables at the loop's head
 abbrev held : tie.After-fault-found invariant_loop decreases_loop → Tables
@@ -91,17 +88,14 @@ held r =
 turned : (e : tie.Else-found-ne0 invariant_loop decreases_loop)
     → Head (bytes (head e.before)) (put_in (field e.before) (held e.before)) (next e.before) × ((head e.before).loop-refused.at < next e.before) × (next e.before ≤ length (bytes (head e.before)))
 turned e =
-    let r = e in
-    at_next (head r.before).loop-refused.invariant (field r.before) (next r.before) r.fault-found.result (stands r.before) r.fault-found.ensures e.if-found-ne0.false
+    at_next (head e.before).loop-refused.invariant (field e.before) (next e.before) e.fault-found.result (stands e.before) e.fault-found.ensures e.if-found-ne0.false
 
 loop_less : tie.Need-loop-refused-smaller invariant_loop decreases_loop
 loop_less c = let on = turned c.before.before.before.before.before.before in omega (arith, on.1, on.2)
 
 loop_again : tie.Need-loop-refused-preserved invariant_loop decreases_loop
 loop_again c =
-    let e = c in
-    let r = e in
-    subst (λ (t : Tables). Head (bytes (head r.before.before.before.before.before.before.before)) t (next r.before.before.before.before.before.before.before)) (sym c.put-counts.ensures) (turned e.before.before.before.before.before.before).0
+    subst (λ (t : Tables). Head (bytes (head c.before.before.before.before.before.before.before)) t (next c.before.before.before.before.before.before.before)) (sym c.put-counts.ensures) (turned c.before.before.before.before.before.before).0
 
 pub load_spec : {M : Type 1} → statement M
 load_spec =

@@ -9,10 +9,8 @@ returns-then-number-ne0 c = check_refused_lem _ _ _ _ (refused c.judge-front.ens
 
 pub conclude-requires : goal.conclude-requires
 conclude-requires c =
-    let e = c in
-    (_, judged e.judge-front.ensures e.if-number-ne0.false)
+    (_, judged c.judge-front.ensures c.if-number-ne0.false)
 
 pub returns : goal.returns
 returns c =
-    let e = c in
-    c.conclude.ensures _ (judged e.judge-front.ensures e.if-number-ne0.false)
+    c.conclude.ensures _ (judged c.judge-front.ensures c.if-number-ne0.false)

@@ -9,28 +9,22 @@ use Rattle.checker.proofs.checking.conclude.Goals as goal
 
 pub pair_literals-count-requires : goal.pair_literals-count-requires
 pair_literals-count-requires c =
-    let f = c in
-    paired f.requires.1 _ (ap found_of f.in-Pair.is) _ refl
+    paired c.requires.1 _ (ap found_of c.in-Pair.is) _ refl
 
 pub lemma_length-length-requires : goal.lemma_length-length-requires
 lemma_length-length-requires c = c.pair_literals-count.ensures.proper
 
 pub returns-then-answer-length : goal.returns-then-answer-length
 returns-then-answer-length c = λ bytes known.
-    let p = c in
-    checks_short known _ (ap found_of p.in-Pair.is) p.pair_literals-count.ensures _ (omega (arith, c.if-answer-length.true, c.lemma_length-length.ensures))
+    checks_short known _ (ap found_of c.in-Pair.is) c.pair_literals-count.ensures _ (omega (arith, c.if-answer-length.true, c.lemma_length-length.ensures))
 
 pub put_lemma-written-requires : goal.put_lemma-written-requires
 put_lemma-written-requires c =
-    let e = c in
-    (e.pair_literals-count.ensures.proper, omega (arith, e.if-answer-length.false, e.lemma_length-length.ensures))
+    (c.pair_literals-count.ensures.proper, omega (arith, c.if-answer-length.false, c.lemma_length-length.ensures))
 
 pub returns-in-Nothing : goal.returns-in-Nothing
 returns-in-Nothing c = λ bytes known. checks_quiet known (ap found_of c.in-Nothing.is) _
 
 pub returns-else-answer-length : goal.returns-else-answer-length
 returns-else-answer-length c = λ bytes known.
-    let w = c in
-    let e = w in
-    let p = e in
-    checks_conflict known _ (ap found_of p.in-Pair.is) p.pair_literals-count.ensures _ _ _ (omega (arith, e.if-answer-length.false, e.lemma_length-length.ensures)) w.put_lemma-written.ensures.0 w.put_lemma-written.ensures.1
+    checks_conflict known _ (ap found_of c.in-Pair.is) c.pair_literals-count.ensures _ _ _ (omega (arith, c.if-answer-length.false, c.lemma_length-length.ensures)) c.put_lemma-written.ensures.0 c.put_lemma-written.ensures.1

@@ -9,11 +9,8 @@ returns-then-number-ne0 c = list_refused_lem _ _ _ _ _ _ c.if-number-ne0.true (r
 
 pub list-requires : goal.list-requires
 list-requires c =
-    let e = c in
-    (_, (_, judged e.judge-front.ensures e.if-number-ne0.false))
+    (_, (_, judged c.judge-front.ensures c.if-number-ne0.false))
 
 pub returns : goal.returns
 returns c =
-    let l = c in
-    let e = l in
-    l.list.ensures _ (_, judged e.judge-front.ensures e.if-number-ne0.false)
+    c.list.ensures _ (_, judged c.judge-front.ensures c.if-number-ne0.false)

@@ -28,13 +28,12 @@ bounds-run-k c = omega (arith, c.requires.2)
 pub loop-k-preserved : goal.loop-k-preserved
 loop-k-preserved c =
     let h = c.loop-k in
-    let s = c in
-    let from = s.args.from.now in
-    let run = s.args.run.now in (
+    let from = c.args.from.now in
+    let run = c.args.run.now in (
       omega arith,
       length-set h.run h.k (get_or from h.k 0) ∙ h.invariant.1,
       ap (λ (held : List ℕ). set held h.k (get_or from h.k 0)) h.invariant.2
-          ∙ copied from run h.k (omega (arith, s.requires.0, s.requires.1)) (omega (arith, s.requires.2))
+          ∙ copied from run h.k (omega (arith, c.requires.0, c.requires.1)) (omega (arith, c.requires.2))
           ∙ ap (λ (n : ℕ). written_over run (take n from)) (sym (add-one h.k)),
     )
 

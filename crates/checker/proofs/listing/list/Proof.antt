@@ -42,33 +42,26 @@ returns c = λ bytes known. lists_nowhere known.1 _ _ _ (ap found_of c.in-Nothin
 
 list_cells_requires : tie.Need-list_cells-used-requires
 list_cells_requires c κs =
-    let e = c in
-    let known = e.requires.1.1 in
-    (within known.holds known.graph, e.if-arrays-array.false, refl, refl)
+    let known = c.requires.1.1 in
+    (within known.holds known.graph, c.if-arrays-array.false, refl, refl)
 
 returns_2 : tie.Need-returns-then-indices-used
 returns_2 c = λ bytes known.
-    let l = c in
-    lists_short_indices known.1 _ _ _ (ap found_of (told l.before).in-Nothing.is) l.if-arrays-array.false l.list_cells-used.ensures c.if-indices-used.true
+    lists_short_indices known.1 _ _ _ (ap found_of (told c.before).in-Nothing.is) c.if-arrays-array.false c.list_cells-used.ensures c.if-indices-used.true
 
 returns_3 : tie.Need-returns-then-contents-used
 returns_3 c = λ bytes known.
-    let l = c in
-    lists_short_values known.1 _ _ _ (ap found_of (told l.before.before).in-Nothing.is) l.if-arrays-array.false l.list_cells-used.ensures c.if-contents-used.true
+    lists_short_values known.1 _ _ _ (ap found_of (told c.before.before).in-Nothing.is) c.if-arrays-array.false c.list_cells-used.ensures c.if-contents-used.true
 
 copy_first_requires : tie.Need-copy_first-requires
 copy_first_requires c κs =
-    let e = c in
-    let l = e in
-    let few = few_cells l.before.before.before.before in
-    (few, (runs_long l.list_cells-used.ensures few few).0, e.if-indices-used.false)
+    let few = few_cells c.before.before.before.before in
+    (few, (runs_long c.list_cells-used.ensures few few).0, c.if-indices-used.false)
 
 copy_first_requires_2 : tie.Need-copy_first-requires-in-Nothing
 copy_first_requires_2 c κs =
-    let e = c in
-    let l = e in
-    let few = few_cells l.before.before.before.before.before.before.before.before.before in
-    (few, (runs_long l.list_cells-used.ensures few few).1, e.if-contents-used.false)
+    let few = few_cells c.before.before.before.before.before.before.before.before.before in
+    (few, (runs_long c.list_cells-used.ensures few few).1, c.if-contents-used.false)
 
 returns_4 : tie.Need-returns-in-Pair
 returns_4 c = λ bytes known. lists_clash known.1 _ _ _ _ (ap found_of c.in-Pair.is)
@@ -81,11 +74,7 @@ same_length_2 c = search rules
 
 returns_5 : tie.Need-returns-else-contents-used
 returns_5 c = λ bytes known.
-    let w = c in
-    let v = w in
-    let e = v in
-    let l = e in
-    lists_cells known.1 _ _ _ (ap found_of (told l.before.before.before.before.before.before.before.before.before.before.before.before).in-Nothing.is) l.if-arrays-array.false l.list_cells-used.ensures _ _ e.if-indices-used.false e.if-contents-used.false v.copy_first.ensures w.copy_first-in-Nothing.ensures
+    lists_cells known.1 _ _ _ (ap found_of (told c.before.before.before.before.before.before.before.before.before.before.before.before).in-Nothing.is) c.if-arrays-array.false c.list_cells-used.ensures _ _ c.if-indices-used.false c.if-contents-used.false c.copy_first.ensures c.copy_first-in-Nothing.ensures
 
 pub list_spec : {M : Type 1} → statement M
 list_spec =

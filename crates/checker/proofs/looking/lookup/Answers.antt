@@ -9,10 +9,8 @@ returns-then-number-ne0 c = look_refused_lem _ _ _ _ _ c.if-number-ne0.true (ref
 
 pub look-requires : goal.look-requires
 look-requires c =
-    let e = c in
-    (_, (_, judged e.judge-front.ensures e.if-number-ne0.false))
+    (_, (_, judged c.judge-front.ensures c.if-number-ne0.false))
 
 pub returns : goal.returns
 returns c =
-    let e = c in
-    c.look.ensures _ (_, judged e.judge-front.ensures e.if-number-ne0.false)
+    c.look.ensures _ (_, judged c.judge-front.ensures c.if-number-ne0.false)

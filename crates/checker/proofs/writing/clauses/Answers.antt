@@ -9,10 +9,8 @@ returns-then-number-ne0 c = write_refused_lem _ _ _ _ c.if-number-ne0.true (refu
 
 pub write-requires : goal.write-requires
 write-requires c =
-    let e = c in
-    (_, judged e.judge-front.ensures e.if-number-ne0.false)
+    (_, judged c.judge-front.ensures c.if-number-ne0.false)
 
 pub returns : goal.returns
 returns c =
-    let e = c in
-    c.write.ensures _ (judged e.judge-front.ensures e.if-number-ne0.false)
+    c.write.ensures _ (judged c.judge-front.ensures c.if-number-ne0.false)

@@ -19,8 +19,7 @@ enum_known_found c = search rules
 
 pair_literals_requires : tie.Need-pair_literals-count-requires
 pair_literals_requires c κs =
-    let f = c in
-    paired f.requires.1 _ (ap found_of f.in-Pair.is) _ refl
+    paired c.requires.1 _ (ap found_of c.in-Pair.is) _ refl
 
 -- the function's entry, seen from behind the literals
 abbrev start : tie.After-pair_literals-count → tie.Start
@@ -31,10 +30,8 @@ counts_requires c κs = (c.pair_literals-count.ensures.proper.most, omega arith)
 
 returns : tie.Need-returns-then-numbers-totals
 returns c = λ bytes known.
-    let n = c in
-    let p = n in
-    let counts = (start p.before.before.before.before).args.counts in
-    writes_short known _ (ap found_of p.in-Pair.is) p.pair_literals-count.ensures _ (omega (arith, c.if-numbers-totals.true, n.counts-totals.ensures.1.1 counts.bases counts.booleans))
+    let counts = (start c.before.before.before.before).args.counts in
+    writes_short known _ (ap found_of c.in-Pair.is) c.pair_literals-count.ensures _ (omega (arith, c.if-numbers-totals.true, c.counts-totals.ensures.1.1 counts.bases counts.booleans))
 
 cast_bases : tie.Need-overflow_cast-bases
 cast_bases c = search rules
@@ -44,16 +41,13 @@ cast_booleans c = search rules
 
 put_clauses_requires : tie.Need-put_clauses-written-requires
 put_clauses_requires c κs =
-    let e = c in
-    let n = e in
-    let p = n in
-    let counts = (start p.before.before.before.before.before.before.before.before).args.counts in
-    let held = (start p.before.before.before.before.before.before.before.before).requires.1.holds.counts in (
-      p.pair_literals-count.ensures.proper.most,
+    let counts = (start c.before.before.before.before.before.before.before.before).args.counts in
+    let held = (start c.before.before.before.before.before.before.before.before).requires.1.holds.counts in (
+      c.pair_literals-count.ensures.proper.most,
       held.bases_most,
       held.booleans_most,
       omega arith,
-      omega (arith, e.if-numbers-totals.false, n.counts-totals.ensures.1.1 counts.bases counts.booleans),
+      omega (arith, c.if-numbers-totals.false, c.counts-totals.ensures.1.1 counts.bases counts.booleans),
     )
 
 mul_variables : tie.Need-overflow_mul-variables
@@ -66,10 +60,8 @@ add_variables c =
 
 add_variables_2 : tie.Need-overflow_add-variables-in-Pair
 add_variables_2 c =
-    let n = c in
-    let p = n in
-    let held = (start p.before.before.before.before.before.before.before.before.before.before.before).requires.1.holds.counts in
-    omega (arith, held.bases_most, held.booleans_most, n.counts-totals.ensures.1.0, fresh_small p.pair_literals-count.ensures.proper)
+    let held = (start c.before.before.before.before.before.before.before.before.before.before.before).requires.1.holds.counts in
+    omega (arith, held.bases_most, held.booleans_most, c.counts-totals.ensures.1.0, fresh_small c.pair_literals-count.ensures.proper)
 
 returns_2 : tie.Need-returns-in-Nothing
 returns_2 c = λ bytes known. writes_quiet known (ap found_of c.in-Nothing.is) _
@@ -79,15 +71,11 @@ same_length c = search rules
 
 returns_3 : tie.Need-returns-else-numbers-totals
 returns_3 c = λ bytes known.
-    let w = c in
-    let e = w in
-    let n = e in
-    let p = n in
-    let counts = (start p.before.before.before.before.before.before.before.before.before.before.before).args.counts in
-    let counted = n.counts-totals.ensures in
-    writes_clauses known _ (ap found_of p.in-Pair.is) p.pair_literals-count.ensures _ _ _ _ _
-    (omega (arith, e.if-numbers-totals.false, counted.1.1 counts.bases counts.booleans))
-    (ap (λ (fresh : ℕ). 32 * counts.bases + counts.booleans + fresh) counted.1.0) (counted.0 counts.bases counts.booleans) w.put_clauses-written.ensures.1 w.put_clauses-written.ensures.0
+    let counts = (start c.before.before.before.before.before.before.before.before.before.before.before).args.counts in
+    let counted = c.counts-totals.ensures in
+    writes_clauses known _ (ap found_of c.in-Pair.is) c.pair_literals-count.ensures _ _ _ _ _
+    (omega (arith, c.if-numbers-totals.false, counted.1.1 counts.bases counts.booleans))
+    (ap (λ (fresh : ℕ). 32 * counts.bases + counts.booleans + fresh) counted.1.0) (counted.0 counts.bases counts.booleans) c.put_clauses-written.ensures.1 c.put_clauses-written.ensures.0
 
 pub write_spec : {M : Type 1} → statement M
 write_spec =

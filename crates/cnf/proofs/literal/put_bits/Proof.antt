@@ -40,10 +40,7 @@ one_length c which h = side_length c.args.sizes c.args.literal c.loop-bit.bit wh
 
 put_side_requires : tie.Need-put_side-next-requires invariant_loop decreases_loop
 put_side_requires c κs =
-    let inside = c in
-    let at = inside in
-    let start = at in
-    (start.requires.0, start.requires.1, inside.loop-bit-test.true, omega arith, omega (arith, one_length at.before.before 0 (omega arith), room_for (one at.before.before 0) _ (ahead inside.before) start.requires.2))
+    (c.requires.0, c.requires.1, c.loop-bit-test.true, omega arith, omega (arith, one_length c.before.before 0 (omega arith), room_for (one c.before.before 0) _ (ahead c.before) c.requires.2))
 
 -- the first clause, seen from the second
 abbrev first : tie.After-put_side-arg-in-loop-bit-1 invariant_loop decreases_loop → tie.After-put_side-next invariant_loop decreases_loop
@@ -52,9 +49,7 @@ first c = c.before.before
 put_side_requires_2 : tie.Need-put_side-next-requires-in-loop-bit invariant_loop decreases_loop
 put_side_requires_2 c κs =
     let inside = first c in
-    let at = inside in
-    let start = at in
-    (start.requires.0, start.requires.1, inside.loop-bit-test.true, omega arith, omega (arith, one_length at.before.before.before 1 (omega arith), room_for (one at.before.before.before 1) _ (further (one at.before.before.before 0) (ahead inside.before.before) (first c).put_side-next.ensures) start.requires.2))
+    (inside.requires.0, inside.requires.1, inside.loop-bit-test.true, omega arith, omega (arith, one_length inside.before.before.before 1 (omega arith), room_for (one inside.before.before.before 1) _ (further (one inside.before.before.before 0) (ahead inside.before.before) (first c).put_side-next.ensures) inside.requires.2))
 
 add_bit : tie.Need-overflow_add-bit invariant_loop decreases_loop
 add_bit c = omega arith
@@ -64,10 +59,8 @@ loop_less c = omega arith
 
 loop_again : tie.Need-loop-bit-preserved invariant_loop decreases_loop
 loop_again c =
-    let two = c in
-    let inside = first two.before.before in
-    let at = inside in
-    further (one at.before.before.before 1) (further (one at.before.before.before 0) (ahead inside.before.before) (first two.before.before).put_side-next.ensures) two.put_side-next-in-loop-bit.ensures
+    let inside = first c.before.before in
+    further (one inside.before.before.before 1) (further (one inside.before.before.before 0) (ahead inside.before.before) (first c.before.before).put_side-next.ensures) c.put_side-next-in-loop-bit.ensures
 
 same_length : tie.Need-shape_of-numbers invariant_loop decreases_loop
 same_length c = c.loop-bit.invariant.long

@@ -37,8 +37,7 @@ ahead c = left_as (differences_step c.args.sizes c.args.first c.loop-k.k c.loop-
 
 put_signed_requires : tie.Need-put_signed-next-requires invariant_loop decreases_loop
 put_signed_requires c κs =
-    let inside = c in
-    (c.fresh_variable-d.ensures.1, omega (arith, room (ahead inside.before.before) inside.requires.2))
+    (c.fresh_variable-d.ensures.1, omega (arith, room (ahead c.before.before) c.requires.2))
 
 add_k : tie.Need-overflow_add-k invariant_loop decreases_loop
 add_k c = omega arith
@@ -48,8 +47,7 @@ loop_less c = omega arith
 
 loop_again : tie.Need-loop-k-preserved invariant_loop decreases_loop
 loop_again c =
-    let inside = c in
-    further (_ ∷ []) (ahead inside.before.before.before.before) (put_as (cc) c.put_signed-next.ensures)
+    further (_ ∷ []) (ahead c.before.before.before.before) (put_as (cc) c.put_signed-next.ensures)
 
 same_length : tie.Need-shape_of-numbers invariant_loop decreases_loop
 same_length c = c.loop-k.invariant.long

@@ -33,8 +33,7 @@ an_e c =
 
 put_differences_requires : tie.Need-put_differences-requires
 put_differences_requires c κs =
-    let start = c in
-    (start.requires.0, start.requires.1.fresh, rw (all_d c.before) at start.requires.2)
+    (c.requires.0, c.requires.1.fresh, rw (all_d c.before) at c.requires.2)
 
 variable_requires : tie.Need-variable-requires
 variable_requires c κs = omega arith

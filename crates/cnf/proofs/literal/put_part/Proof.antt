@@ -20,15 +20,13 @@ rank_is c = c.rank-rank.ensures _ _ _ _
 
 no_bits : (c : tie.Then-rank-eq0) → part c.before.before.before ≡ []
 no_bits c =
-    let ranked = c in
-    rw (c.if-part-eq-CLAUSES.true, no_clauses_lem _ ranked.args.literal (sym (rank_is ranked.before.before) ∙ c.if-rank-eq0.true))
+    rw (c.if-part-eq-CLAUSES.true, no_clauses_lem _ c.args.literal (sym (rank_is c.before.before) ∙ c.if-rank-eq0.true))
 
 bits : (c : tie.Else-rank-eq0)
     → let start = c.before.before.before in
     part start ≡ bit_numbers start.args.sizes start.args.literal
 bits c =
-    let ranked = c in
-    rw (c.if-part-eq-CLAUSES.true, by_bits _ ranked.args.literal (λ none. c.if-rank-eq0.false (rank_is ranked.before.before ∙ none)))
+    rw (c.if-part-eq-CLAUSES.true, by_bits _ c.args.literal (λ none. c.if-rank-eq0.false (rank_is c.before.before ∙ none)))
 
 link : (c : tie.Then-rank-part)
     → let start = c.before.before.before in
@@ -43,13 +41,11 @@ rank_requires c κs = search rules
 
 put_bits_requires : tie.Need-put_bits-requires
 put_bits_requires c κs =
-    let start = c in
-    (start.requires.0, start.requires.1, rw (bits c.before) at start.requires.2)
+    (c.requires.0, c.requires.1, rw (bits c.before) at c.requires.2)
 
 put_link_requires : tie.Need-put_link-requires
 put_link_requires c κs =
-    let start = c in
-    (start.requires.0, start.requires.1, rw (link c.before) at start.requires.2)
+    (c.requires.0, c.requires.1, rw (link c.before) at c.requires.2)
 
 returns : tie.Need-returns-then-rank-eq0
 returns c = rw (no_bits c) (nothing _ _)

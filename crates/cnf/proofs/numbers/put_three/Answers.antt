@@ -5,12 +5,8 @@ use Rattle.cnf.proofs.numbers.put_three.Goals as goal
 
 pub returns : goal.returns
 returns c =
-    let four = c in
-    let three = four in
-    let two = three in
-    let one = two in
-    let args = one.args in
-    let first = further _ (begun args.numbers.now args.at _) one.put_signed-at.ensures in
-    let second = further _ first two.put_signed-at-2.ensures in
-    let third = further _ second three.put_signed-at-3.ensures in
-    done (further _ third four.put_signed.ensures)
+    let args = c.args in
+    let first = further _ (begun args.numbers.now args.at _) c.put_signed-at.ensures in
+    let second = further _ first c.put_signed-at-2.ensures in
+    let third = further _ second c.put_signed-at-3.ensures in
+    done (further _ third c.put_signed.ensures)

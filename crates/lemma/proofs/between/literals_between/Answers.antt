@@ -28,22 +28,19 @@ leave_out-requires c = let whole = c.literals_of-whole.ensures in (whole.proper,
 
 pub returns : goal.returns
 returns c =
-    let whole = c in
-    let path = whole.path_between-steps in
-    let origins = whole in
-    let goal = origins.origin_of-goal in
-    let from = origins.origin_of-from in
-    let x = origins.index_value-x in
-    let start = origins in
-    let args = start.args in
+    let path = c.path_between-steps in
+    let goal = c.origin_of-goal in
+    let from = c.origin_of-from in
+    let x = c.index_value-x in
+    let args = c.args in
     record {
       same =
           c.leave_out.ensures.same
           ∙ ap (keep (stays_by args.reads.now))
-          (whole.literals_of-whole.ensures.same
+          (c.literals_of-whole.ensures.same
           ∙ ap (literals_for args.one args.other)
           (path.ensures.walked
-          ∙ path_same args.values.now args.truths.now args.edges.now args.ways args.arrays start.requires.lent x.result from.result goal.result
+          ∙ path_same args.values.now args.truths.now args.edges.now args.ways args.arrays c.requires.lent x.result from.result goal.result
           ∙ (λ i. path_over args.values.now args.truths.now args.edges.now args.ways args.arrays (x.ensures i) (from.ensures i) (goal.ensures i))));
       proper = c.leave_out.ensures.proper;
     }

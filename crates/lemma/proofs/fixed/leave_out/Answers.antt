@@ -21,16 +21,13 @@ put_kept-left-requires c = omega (arith, c.loop-k.invariant.fewer, c.requires.0.
 
 pub loop-k-preserved : goal.loop-k-preserved
 loop-k-preserved c =
-    let body = c in
-    let l = body in
-    let args = l.args in
+    let args = c.args in
     rw c.put_kept-left.ensures
-    (leaving_on args.reads.now args.literals.now args.count l.requires.0 l.requires.1 l.loop-k.k body.loop-k-test.true (listed l.loop-k.literals l.loop-k.left) l.loop-k.invariant)
+    (leaving_on args.reads.now args.literals.now args.count c.requires.0 c.requires.1 c.loop-k.k c.loop-k-test.true (listed c.loop-k.literals c.loop-k.left) c.loop-k.invariant)
 
 pub returns : goal.returns
 returns c =
-    let l = c in
-    let args = l.args in
-    let here : l.loop-k.k ≡ args.count = omega (arith, l.loop-k.invariant.within, c.loop-k-test.false) in
-    leaving_end args.reads.now args.literals.now args.count l.requires.0 l.requires.1 (listed l.loop-k.literals l.loop-k.left)
-    (subst (λ (k : ℕ). Leaving args.reads.now args.literals.now args.count k (listed l.loop-k.literals l.loop-k.left)) here l.loop-k.invariant)
+    let args = c.args in
+    let here : c.loop-k.k ≡ args.count = omega (arith, c.loop-k.invariant.within, c.loop-k-test.false) in
+    leaving_end args.reads.now args.literals.now args.count c.requires.0 c.requires.1 (listed c.loop-k.literals c.loop-k.left)
+    (subst (λ (k : ℕ). Leaving args.reads.now args.literals.now args.count k (listed c.loop-k.literals c.loop-k.left)) here c.loop-k.invariant)

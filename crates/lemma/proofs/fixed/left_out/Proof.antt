@@ -24,14 +24,13 @@ both_fixed_requires c κs = (omega (arith, c.left_of.ensures), omega (arith, c.r
 
 returns : tie.Need-returns-in-33
 returns c =
-    let compared = c in
-    let tag = compared.tag_of in
-    let args = compared.args in
+    let tag = c.tag_of in
+    let args = c.args in
     let fixed = fixed_in args.reads.now in
     let row = args.literal in
     c.both_fixed.ensures
     ∙ ap₂ (λ (i j : ℕ). fixed i && fixed j) c.left_of.ensures c.right_of.ensures
-    ∙ sym (compares fixed (tag_in row) (left_in row) (right_in row) (omega (arith, tag.ensures, compared.in-33.if-tag_of-lt33-own.false)) (omega (arith, tag.ensures, compared.in-33.if-this-lt35-own.true)))
+    ∙ sym (compares fixed (tag_in row) (left_in row) (right_in row) (omega (arith, tag.ensures, c.in-33.if-tag_of-lt33-own.false)) (omega (arith, tag.ensures, c.in-33.if-this-lt35-own.true)))
 
 returns_2 : tie.Need-returns-in_default
 returns_2 c =

@@ -45,19 +45,16 @@ index_of_requires_2 c κs = tt
 
 opening_requires : tie.Need-opening-count-requires invariant_loop decreases_loop
 opening_requires c κs =
-    let indices = c in
-    (omega (arith, indices.index_of-index.ensures), omega (arith, indices.index_of.ensures), indices.requires.1)
+    (omega (arith, c.index_of-index.ensures), omega (arith, c.index_of.ensures), c.requires.1)
 
 loop_holds : tie.Need-loop-step-init invariant_loop decreases_loop
 loop_holds c =
-    let indices = c in
-    let s = indices in
-    let args = s.args in
+    let args = c.args in
     let opened = listed c.opening-count.new.literals c.opening-count.result in
-    let is : Opening (index s.before.before.before.before) (later_index s.before.before.before.before) opened =
-    subst (λ (i : ℕ). Opening i (later_index s.before.before.before.before) opened) indices.index_of-index.ensures
-    (subst (λ (j : ℕ). Opening indices.index_of-index.result j opened) indices.index_of.ensures c.opening-count.ensures) in
-    (omega arith, writing_start (lent_to s.before.before.before.before) args.x args.path.now args.steps (index s.before.before.before.before) (later_index s.before.before.before.before) opened is)
+    let is : Opening (index c.before.before.before.before) (later_index c.before.before.before.before) opened =
+    subst (λ (i : ℕ). Opening i (later_index c.before.before.before.before) opened) c.index_of-index.ensures
+    (subst (λ (j : ℕ). Opening c.index_of-index.result j opened) c.index_of.ensures c.opening-count.ensures) in
+    (omega arith, writing_start (lent_to c.before.before.before.before) args.x args.path.now args.steps (index c.before.before.before.before) (later_index c.before.before.before.before) opened is)
 
 element_copy_out_k : tie.Need-bounds-path-step invariant_loop decreases_loop
 element_copy_out_k c = omega (arith, (start c.before.before).requires.0.short)
@@ -102,12 +99,11 @@ edge_literal_requires c κs =
 literal_is : (c : tie.After-edge_literal-literal invariant_loop decreases_loop)
     → Says (literal_of (index (start (head c.before))) (edge_at (lent_to (start (head c.before))) (start (head c.before)).args.x (number_of (head c.before))).guard) c.edge_literal-literal.result
 literal_is c =
-    let o = c in
-    let l = head o.before in
+    let l = head c.before in
     let s = start l in
     subst (λ (guard : Guard). Says (literal_of (index s) guard) c.edge_literal-literal.result)
-    (way_guard (lent_to s) s.args.x (number_of l) o.open_way-way.result o.open_way-way.ensures (lies_open o.before))
-    (subst (λ (i : ℕ). Says (literal_of i (guard_of o.open_way-way.result.tag o.open_way-way.result.number)) c.edge_literal-literal.result) l.index_of-index.ensures c.edge_literal-literal.ensures)
+    (way_guard (lent_to s) s.args.x (number_of l) c.open_way-way.result c.open_way-way.ensures (lies_open c.before))
+    (subst (λ (i : ℕ). Says (literal_of i (guard_of c.open_way-way.result.tag c.open_way-way.result.number)) c.edge_literal-literal.result) l.index_of-index.ensures c.edge_literal-literal.ensures)
 
 put_once_requires : tie.Need-put_once-count-requires invariant_loop decreases_loop
 put_once_requires c κs =
@@ -122,13 +118,12 @@ loop_less c = omega arith
 
 loop_again : tie.Need-loop-step-preserved invariant_loop decreases_loop
 loop_again c =
-    let literal = c in
-    let l = head literal.before.before.before in
+    let l = head c.before.before.before in
     let s = start l in
     let args = s.args in
     let step = l.loop-step.step in
-    let inside = literal.loop-step-test.true in
-    let on = writing_on (lent_to s) args.x args.path.now args.steps (index s) (later_index s) s.requires.0 step inside (listed l.loop-step.literals l.loop-step.count) literal.edge_literal-literal.result (literal_is literal.before.before) l.loop-step.invariant.1 in
+    let inside = c.loop-step-test.true in
+    let on = writing_on (lent_to s) args.x args.path.now args.steps (index s) (later_index s) s.requires.0 step inside (listed l.loop-step.literals l.loop-step.count) c.edge_literal-literal.result (literal_is c.before.before) l.loop-step.invariant.1 in
     (omega arith, rw c.put_once-count.ensures on)
 
 value_of_requires : tie.Need-value_of-requires invariant_loop decreases_loop

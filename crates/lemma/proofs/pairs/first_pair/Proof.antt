@@ -76,9 +76,8 @@ next_within s k inside = (s.requires.linked k inside).within
 
 first_holds : tie.Need-first-init invariant_loop decreases_loop invariant_first decreases_first
 first_holds c =
-    let s = c in
-    let sources = lent_to s.before.before.before in
-    (refl, omega arith, refl, record { left = rest_all sources (rows_in s.args.rows.now); cleared = cleared_first sources (rows_in s.args.rows.now) s.args.clear.now s.requires.unknown })
+    let sources = lent_to c.before.before.before in
+    (refl, omega arith, refl, record { left = rest_all sources (rows_in c.args.rows.now); cleared = cleared_first sources (rows_in c.args.rows.now) c.args.clear.now c.requires.unknown })
 
 row_requires : tie.Need-row-row-requires invariant_loop decreases_loop invariant_first decreases_first
 row_requires c κs = (omega (arith, (start c.before).requires.sources), omega (arith, (start c.before).requires.rows_long))
@@ -106,21 +105,20 @@ first_tried_requires c κs = tt
 
 loop_holds : tie.Need-loop-t-init invariant_loop decreases_loop invariant_first decreases_first
 loop_holds c =
-    let f = c in
-    let e = start f.before.before.before.before.before.before.before.before in
-    let s = f.first.s in
+    let e = start c.before.before.before.before.before.before.before.before in
+    let s = c.first.s in
     let inside : s < e.args.count = omega arith in
     let next = get_or e.args.next.now s 0 in
-    let known = get_or f.first.clear s false in
+    let known = get_or c.first.clear s false in
     let rows = rows_in e.args.rows.now in
     let bounds = begins_at s next e.args.count known inside (next_later e s inside) (next_within e s inside) c.first_tried-t.result c.first_tried-t.ensures in
-    let cleared = f.first.invariant.3.cleared in
+    let cleared = c.first.invariant.3.cleared in
     let begun = begins (lent_to e) rows s next known (cleared s (omega arith) inside) (e.requires.linked s inside) _ c.first_tried-t.ensures in (
-      f.first.invariant.0,
+      c.first.invariant.0,
       bounds.0,
       bounds.1,
       refl,
-      record { same = begun.0; free = begun.1; marked = marked_first (lent_to e) rows s f.first.clear cleared },
+      record { same = begun.0; free = begun.1; marked = marked_first (lent_to e) rows s c.first.clear cleared },
     )
 
 mul_later : tie.Need-offset_bounds-sources-t invariant_loop decreases_loop invariant_first decreases_first
@@ -137,16 +135,14 @@ origin_of_requires c κs = tt
 
 clashes_requires : tie.Need-clashes-requires invariant_loop decreases_loop invariant_first decreases_first
 clashes_requires c κs =
-    let l = c in
-    rw c.origin_of-origin.ensures ((start (trying_of l.before.before.before.before.before)).requires.origin l.loop-t.t (omega arith))
+    rw c.origin_of-origin.ensures ((start (trying_of c.before.before.before.before.before)).requires.origin c.loop-t.t (omega arith))
 
 slice_read_settles : tie.Need-bounds-clear-t invariant_loop decreases_loop invariant_first decreases_first
 slice_read_settles c = omega (arith, clear_still c.before.before.before.before.before.before.before.before)
 
 settles_requires : tie.Need-settles-requires invariant_loop decreases_loop invariant_first decreases_first
 settles_requires c κs =
-    let l = c in
-    rw c.origin_of-origin.ensures ((start (trying_of l.before.before.before.before.before.before.before.before)).requires.origin l.loop-t.t (omega arith))
+    rw c.origin_of-origin.ensures ((start (trying_of c.before.before.before.before.before.before.before.before)).requires.origin c.loop-t.t (omega arith))
 
 slice_write_clear : tie.Need-bounds-clear-t-in-loop-t invariant_loop decreases_loop invariant_first decreases_first
 slice_write_clear c = omega (arith, clear_still c.before.before.before.before.before.before.before.before.before)
@@ -159,44 +155,41 @@ shared_slice_read_t c = omega (arith, (start (trying_of c.before.before.before.b
 
 cast_t : tie.Need-overflow_cast-t invariant_loop decreases_loop invariant_first decreases_first
 cast_t c =
-    let l = c in
-    let e = start (trying_of l.before.before.before.before.before.before.before.before.before.before) in
-    omega (arith, e.requires.sources, next_within e l.loop-t.t (omega arith))
+    let e = start (trying_of c.before.before.before.before.before.before.before.before.before.before) in
+    omega (arith, e.requires.sources, next_within e c.loop-t.t (omega arith))
 
 loop_less : tie.Need-loop-t-smaller invariant_loop decreases_loop invariant_first decreases_first
 loop_less c =
-    let l = c in
-    let e = start (trying_of l.before.before.before.before.before.before.before.before.before.before) in
-    omega (arith, next_later e l.loop-t.t (omega arith), next_within e l.loop-t.t (omega arith))
+    let e = start (trying_of c.before.before.before.before.before.before.before.before.before.before) in
+    omega (arith, next_later e c.loop-t.t (omega arith), next_within e c.loop-t.t (omega arith))
 
 loop_again : tie.Need-loop-t-preserved invariant_loop decreases_loop invariant_first decreases_first
 loop_again c =
-    let l = c in
-    let f = trying_of l.before.before.before.before.before.before.before.before.before.before in
+    let f = trying_of c.before.before.before.before.before.before.before.before.before.before in
     let e = start f in
     let s = f.first.s in
-    let t = l.loop-t.t in
+    let t = c.loop-t.t in
     let rows = rows_in e.args.rows.now in
-    let clear = l.loop-t.clear in
+    let clear = c.loop-t.clear in
     let sources = lent_to e in
     let inside : t < e.args.count = c.loop-t-test.true in
-    let value = l.assigned_value-value.ensures in
+    let value = c.assigned_value-value.ensures in
     let other = c.assigned_value-other.ensures in
-    let row = l.row-row.ensures in
+    let row = c.row-row.ensures in
     let origin = c.origin_of-origin.ensures in
     let clash = sym (ap₄ clash_of value other row origin) ∙ sym c.clashes.ensures ∙ c.if-clashes.false in
     let put = c.settles.ensures ∙ ap₂ (settled_by (get_or clear t false)) row origin in
-    let trying = l.loop-t.invariant.4 in
+    let trying = c.loop-t.invariant.4 in
     let same = trying.same inside in
     let link = e.requires.linked t inside in (
-      l.loop-t.invariant.0,
+      c.loop-t.invariant.0,
       omega (arith, next_later e t inside),
       next_within e t inside,
-      length-set clear t c.settles.result ∙ l.loop-t.invariant.3,
+      length-set clear t c.settles.result ∙ c.loop-t.invariant.3,
       record {
         same = λ further. link.same further ∙ same;
         free = free_over sources rows s t _ trying.free same (clash_at sources rows s t same clash) link;
-        marked = subst (λ (new : Bool). Marked sources rows s (set clear t new)) (sym put) (marked_put sources rows s t clear l.loop-t.invariant.1 inside same e.requires.shared clash trying.marked);
+        marked = subst (λ (new : Bool). Marked sources rows s (set clear t new)) (sym put) (marked_put sources rows s t clear c.loop-t.invariant.1 inside same e.requires.shared clash trying.marked);
       },
     )
 
@@ -208,20 +201,19 @@ first_less c = omega arith
 
 first_again : tie.Need-first-preserved invariant_loop decreases_loop invariant_first decreases_first
 first_again c =
-    let l = c in
-    let f = trying_of l.before in
+    let f = trying_of c.before in
     let e = start f in
     let s = f.first.s in
     let rows = rows_in e.args.rows.now in
     let sources = lent_to e in
-    let trying = l.loop-t.invariant.4 in
+    let trying = c.loop-t.invariant.4 in
     let free : Free sources rows s e.args.count = λ j above below. trying.free j above (omega arith) in (
-      l.loop-t.invariant.0,
+      c.loop-t.invariant.0,
       omega arith,
-      l.loop-t.invariant.3 ∙ f.first.invariant.2,
+      c.loop-t.invariant.3 ∙ f.first.invariant.2,
       record {
         left = f.first.invariant.3.left ∙ rest_free sources rows s (omega arith) free;
-        cleared = cleared_next sources rows s l.loop-t.clear free trying.marked;
+        cleared = cleared_next sources rows s c.loop-t.clear free trying.marked;
       },
     )
 
@@ -230,28 +222,25 @@ same_length c = c.first.invariant.2
 
 returns : tie.Need-returns-after-first invariant_loop decreases_loop invariant_first decreases_first
 returns c =
-    let f = c in
-    let e = start f.before in
-    ap found_of f.first.invariant.0 ∙ sym (f.first.invariant.3.left ∙ rest_end (lent_to e) (rows_in e.args.rows.now) f.first.s (omega arith))
+    let e = start c.before in
+    ap found_of c.first.invariant.0 ∙ sym (c.first.invariant.3.left ∙ rest_end (lent_to e) (rows_in e.args.rows.now) c.first.s (omega arith))
 
 same_length_2 : tie.Need-shape_of-clear-then-clashes invariant_loop decreases_loop invariant_first decreases_first
 same_length_2 c =
-    let l = c in
-    l.loop-t.invariant.3 ∙ (trying_of l.before.before.before.before.before.before.before).first.invariant.2
+    c.loop-t.invariant.3 ∙ (trying_of c.before.before.before.before.before.before.before).first.invariant.2
 
 returns_2 : tie.Need-returns-then-clashes invariant_loop decreases_loop invariant_first decreases_first
 returns_2 c =
-    let l = c in
-    let f = trying_of l.before.before.before.before.before.before.before in
+    let f = trying_of c.before.before.before.before.before.before.before in
     let e = start f in
     let s = f.first.s in
-    let t = l.loop-t.t in
+    let t = c.loop-t.t in
     let rows = rows_in e.args.rows.now in
     let sources = lent_to e in
     let inside : t < e.args.count = omega arith in
-    let clash = sym (ap₄ clash_of l.assigned_value-value.ensures c.assigned_value-other.ensures l.row-row.ensures c.origin_of-origin.ensures) ∙ sym c.clashes.ensures ∙ c.if-clashes.true in
-    let trying = l.loop-t.invariant.4 in
-    sym (f.first.invariant.3.left ∙ rest_hit sources rows s t l.loop-t.invariant.1 inside trying.free (clash_at sources rows s t (trying.same inside) clash))
+    let clash = sym (ap₄ clash_of c.assigned_value-value.ensures c.assigned_value-other.ensures c.row-row.ensures c.origin_of-origin.ensures) ∙ sym c.clashes.ensures ∙ c.if-clashes.true in
+    let trying = c.loop-t.invariant.4 in
+    sym (f.first.invariant.3.left ∙ rest_hit sources rows s t c.loop-t.invariant.1 inside trying.free (clash_at sources rows s t (trying.same inside) clash))
 
 pub first_pair_spec : {M : Type 1} → statement M
 first_pair_spec =

@@ -26,33 +26,27 @@ loop_holds c =
 
 nearer_edge_requires : tie.Need-nearer_edge-k-requires invariant_loop decreases_loop
 nearer_edge_requires c κs =
-    let at = c in
-    let s = at in
-    let args = s.args in
-    let pre = s.requires.0 in (
-      ends_most (lent_to s.before.before) args.x args.arrays pre.ends,
-      omega (arith, pre.ends.arrays, walking_in (lent_to s.before.before) args.x args.arrays args.goal at.loop-a.invariant),
+    let args = c.args in
+    let pre = c.requires.0 in (
+      ends_most (lent_to c.before.before) args.x args.arrays pre.ends,
+      omega (arith, pre.ends.arrays, walking_in (lent_to c.before.before) args.x args.arrays args.goal c.loop-a.invariant),
       omega (arith, pre.ends.arrays, pre.goal_in),
     )
 
 -- the edge that is taken stands in the table, and is open
 numbered : (c : tie.After-nearer_edge-k invariant_loop decreases_loop) → c.nearer_edge-k.result < c.args.ways
 numbered c =
-    let at = c in
-    let s = at in
-    let args = s.args in
-    let pre = s.requires.0 in
+    let args = c.args in
+    let pre = c.requires.0 in
     rw c.nearer_edge-k.ensures
-    (chosen_in (lent_to s.before.before.before) args.x args.arrays args.goal pre.ends args.distances.now pre.distances_are pre.goal_in args.from at.loop-a.a at.loop-a.steps at.loop-a.path pre.ends.arrays c.loop-a-test.true at.loop-a.invariant)
+    (chosen_in (lent_to c.before.before.before) args.x args.arrays args.goal pre.ends args.distances.now pre.distances_are pre.goal_in args.from c.loop-a.a c.loop-a.steps c.loop-a.path pre.ends.arrays c.loop-a-test.true c.loop-a.invariant)
 
 taken_open : (c : tie.After-nearer_edge-k invariant_loop decreases_loop) → open_at (lent_to c.before.before.before) c.args.x c.nearer_edge-k.result ≡ true
 taken_open c =
-    let at = c in
-    let s = at in
-    let args = s.args in
-    let pre = s.requires.0 in
+    let args = c.args in
+    let pre = c.requires.0 in
     rw c.nearer_edge-k.ensures
-    (chosen_open (lent_to s.before.before.before) args.x args.arrays args.goal pre.ends args.distances.now pre.distances_are pre.goal_in args.from at.loop-a.a at.loop-a.steps at.loop-a.path pre.ends.arrays c.loop-a-test.true at.loop-a.invariant)
+    (chosen_open (lent_to c.before.before.before) args.x args.arrays args.goal pre.ends args.distances.now pre.distances_are pre.goal_in args.from c.loop-a.a c.loop-a.steps c.loop-a.path pre.ends.arrays c.loop-a-test.true c.loop-a.invariant)
 
 cast_path : tie.Need-overflow_cast-path invariant_loop decreases_loop
 cast_path c = omega (arith, numbered c, c.requires.0.ends.edges)
@@ -80,25 +74,20 @@ loop_less c = omega (arith, c.loop-a.invariant.short)
 
 loop_again : tie.Need-loop-a-preserved invariant_loop decreases_loop
 loop_again c =
-    let chosen = c in
-    let at = c in
-    let s = at in
-    let args = s.args in
-    let pre = s.requires.0 in
-    let k = chosen.nearer_edge-k.result in
+    let args = c.args in
+    let pre = c.requires.0 in
+    let k = c.nearer_edge-k.result in
     let way = c.open_way-way.result in
     let is = c.open_way-way.ensures in
-    let other = way_other (lent_to s.before.before.before.before.before.before.before.before) args.x k way is (way_open (lent_to s.before.before.before.before.before.before.before.before) args.x k way is ∙ taken_open chosen.before.before.before.before.before) at.loop-a.a in
-    rw (c.other_end-a.ensures ∙ other, chosen.nearer_edge-k.ensures)
-    (walking_on (lent_to s.before.before.before.before.before.before.before.before) args.x args.arrays args.goal pre.ends args.distances.now pre.distances_are pre.goal_in args.from at.loop-a.a at.loop-a.steps at.loop-a.path pre.ends.arrays chosen.loop-a-test.true at.loop-a.invariant)
+    let other = way_other (lent_to c.before.before.before.before.before.before.before.before) args.x k way is (way_open (lent_to c.before.before.before.before.before.before.before.before) args.x k way is ∙ taken_open c.before.before.before.before.before) c.loop-a.a in
+    rw (c.other_end-a.ensures ∙ other, c.nearer_edge-k.ensures)
+    (walking_on (lent_to c.before.before.before.before.before.before.before.before) args.x args.arrays args.goal pre.ends args.distances.now pre.distances_are pre.goal_in args.from c.loop-a.a c.loop-a.steps c.loop-a.path pre.ends.arrays c.loop-a-test.true c.loop-a.invariant)
 
 returns : tie.Need-returns invariant_loop decreases_loop
 returns c =
-    let at = c in
-    let s = at in
-    let args = s.args in
-    let pre = s.requires.0 in
-    walking_end (lent_to s.before.before) args.x args.arrays args.goal pre.ends args.from at.loop-a.a at.loop-a.steps at.loop-a.path c.loop-a-test.false at.loop-a.invariant
+    let args = c.args in
+    let pre = c.requires.0 in
+    walking_end (lent_to c.before.before) args.x args.arrays args.goal pre.ends args.from c.loop-a.a c.loop-a.steps c.loop-a.path c.loop-a-test.false c.loop-a.invariant
 
 pub least_path_spec : {M : Type 1} → statement M
 least_path_spec =

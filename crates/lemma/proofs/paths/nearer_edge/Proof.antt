@@ -36,16 +36,13 @@ element_copy_out_row c = omega (arith, c.requires.0.edges)
 
 row_leads_requires : tie.Need-row_leads-requires invariant_loop decreases_loop
 row_leads_requires c κs =
-    let l = c in
-    let e = l in
-    let k = l.loop-k.k in
-    let inside : k < e.args.count = omega arith in
-    ((e.requires.0.left k inside, e.requires.0.right k inside), e.requires.1, e.requires.2)
+    let k = c.loop-k.k in
+    let inside : k < c.args.count = omega arith in
+    ((c.requires.0.left k inside, c.requires.0.right k inside), c.requires.1, c.requires.2)
 
 returns : tie.Need-returns-then-row_leads invariant_loop decreases_loop
 returns c =
-    let at = c in
-    sym (at.loop-k.invariant.1 ∙ first_hit (nearer at.before.before.before.before.before.before) at.args.count at.loop-k.k (omega arith) (sym c.row_leads.ensures ∙ c.if-row_leads.true))
+    sym (c.loop-k.invariant.1 ∙ first_hit (nearer c.before.before.before.before.before.before) c.args.count c.loop-k.k (omega arith) (sym c.row_leads.ensures ∙ c.if-row_leads.true))
 
 add_k : tie.Need-overflow_add-k invariant_loop decreases_loop
 add_k c = omega (arith, c.requires.0.edges)
@@ -55,13 +52,11 @@ loop_less c = omega arith
 
 loop_again : tie.Need-loop-k-preserved invariant_loop decreases_loop
 loop_again c =
-    let at = c in
-    (omega arith, at.loop-k.invariant.1 ∙ first_miss (nearer at.before.before.before.before.before.before) at.args.count at.loop-k.k (omega arith) (sym c.row_leads.ensures ∙ c.if-row_leads.false))
+    (omega arith, c.loop-k.invariant.1 ∙ first_miss (nearer c.before.before.before.before.before.before) c.args.count c.loop-k.k (omega arith) (sym c.row_leads.ensures ∙ c.if-row_leads.false))
 
 returns_2 : tie.Need-returns invariant_loop decreases_loop
 returns_2 c =
-    let at = c in
-    let here = at.loop-k.invariant.1 ∙ first_end (nearer at.before.before) at.args.count at.loop-k.k (omega arith) in
+    let here = c.loop-k.invariant.1 ∙ first_end (nearer c.before.before) c.args.count c.loop-k.k (omega arith) in
     omega (arith, here)
 
 pub nearer_edge_spec : {M : Type 1} → statement M

@@ -23,22 +23,19 @@ step_cost_requires c κs = tt
 
 leads_nearer_requires : tie.Need-leads_nearer-requires
 leads_nearer_requires c κs =
-    let s = c in
     let way = c.open_way-way.result in
     let is = c.open_way-way.ensures in (
-      (λ opens. (rw (way_left (alone s.before.before.before.before) s.args.x 0 way is opens) s.requires.0.0, rw (way_right (alone s.before.before.before.before) s.args.x 0 way is opens) s.requires.0.1)),
-      s.requires.1,
-      s.requires.2,
+      (λ opens. (rw (way_left (alone c.before.before.before.before) c.args.x 0 way is opens) c.requires.0.0, rw (way_right (alone c.before.before.before.before) c.args.x 0 way is opens) c.requires.0.1)),
+      c.requires.1,
+      c.requires.2,
     )
 
 returns : tie.Need-returns-then-touches
 returns c =
-    let o = c in
-    let s = o in
-    let way = o.open_way-way.result in
+    let way = c.open_way-way.result in
     c.leads_nearer.ensures
-    ∙ ap (λ (cost : ℕ). nearer_over way.open way.left way.right cost s.args.distances.now s.args.a s.args.goal) c.step_cost-cost.ensures
-    ∙ way_nearer (alone s.before.before.before.before.before) s.args.x 0 way o.open_way-way.ensures s.args.distances.now s.args.a s.args.goal
+    ∙ ap (λ (cost : ℕ). nearer_over way.open way.left way.right cost c.args.distances.now c.args.a c.args.goal) c.step_cost-cost.ensures
+    ∙ way_nearer (alone c.before.before.before.before.before) c.args.x 0 way c.open_way-way.ensures c.args.distances.now c.args.a c.args.goal
 
 returns_2 : tie.Need-returns
 returns_2 c =

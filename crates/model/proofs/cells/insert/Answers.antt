@@ -12,15 +12,13 @@ loop-k-init c = (omega arith, refl)
 
 pub loop-k-preserved : goal.loop-k-preserved
 loop-k-preserved c =
-    let l = c in
-    let used = l.args.used in
-    let one_more : used - l.loop-k.k ≡ suc (used - suc l.loop-k.k) = omega arith in
-    (omega arith, rw (add-one l.loop-k.k) (l.loop-k.invariant.1 ∙ ap (λ (many : ℕ). moved_on l.loop-k.run l.loop-k.k many l.loop-k.carried) one_more))
+    let used = c.args.used in
+    let one_more : used - c.loop-k.k ≡ suc (used - suc c.loop-k.k) = omega arith in
+    (omega arith, rw (add-one c.loop-k.k) (c.loop-k.invariant.1 ∙ ap (λ (many : ℕ). moved_on c.loop-k.run c.loop-k.k many c.loop-k.carried) one_more))
 
 pub returns : goal.returns
 returns c =
-    let l = c in
-    let used = l.args.used in
-    let none_left : used - l.loop-k.k ≡ 0 = omega arith in
-    let here : l.loop-k.k ≡ used = omega arith in
-    sym (l.loop-k.invariant.1 ∙ rw (none_left, here))
+    let used = c.args.used in
+    let none_left : used - c.loop-k.k ≡ 0 = omega arith in
+    let here : c.loop-k.k ≡ used = omega arith in
+    sym (c.loop-k.invariant.1 ∙ rw (none_left, here))

@@ -77,11 +77,10 @@ assigned_value_requires c κs = tt
 place_cell_requires : tie.Need-place_cell-used-requires invariant_loop decreases_loop
 place_cell_requires c κs =
     let l = head c.before.before.before.before in
-    let s = l in
     let known = l.loop-k.invariant.1 in
-    let inside : l.loop-k.used < 304 = omega (arith, known.few, s.requires.0.sources, c.loop-k-test.true) in
+    let inside : l.loop-k.used < 304 = omega (arith, known.few, l.requires.0.sources, c.loop-k-test.true) in
     let long = runs_long known.listing (omega arith) (omega arith) in
-    (inside, long.0 ∙ s.requires.2, long.1 ∙ s.requires.3)
+    (inside, long.0 ∙ l.requires.2, long.1 ∙ l.requires.3)
 
 add_k : tie.Need-overflow_add-k invariant_loop decreases_loop
 add_k c = omega arith
@@ -91,20 +90,19 @@ loop_less c = omega arith
 
 loop_again : tie.Need-loop-k-preserved invariant_loop decreases_loop
 loop_again c =
-    let r = c in
-    let l = head r.before in
+    let l = head c.before in
     let known = l.loop-k.invariant.1 in
-    let inside = r.loop-k-test.true in
-    let shown = bit r.reached_from-row.result r.origin_of-origin.result in (
+    let inside = c.loop-k-test.true in
+    let shown = bit c.reached_from-row.result c.origin_of-origin.result in (
       omega arith,
       ⊎_elim
           (λ w.
           gathered_same
-          (gathered_next known inside (reached r.before ∙ eq-eqb shown 1 w.if-shifted-eq1.true)
+          (gathered_next known inside (reached c.before ∙ eq-eqb shown 1 w.if-shifted-eq1.true)
           (subst (λ (cell : Cell). Places cell l.loop-k.indices w.place_cell-used.new.indices l.loop-k.cells w.place_cell-used.new.cells l.loop-k.used w.place_cell-used.result)
-          (λ i. record { index = r.index_value-x.ensures i; value = w.assigned_value-value.ensures i }) w.place_cell-used.ensures))
+          (λ i. record { index = c.index_value-x.ensures i; value = w.assigned_value-value.ensures i }) w.place_cell-used.ensures))
           w.indices-is w.cells-is w.used-is)
-          (λ w. gathered_same (gathered_past known inside (reached r.before ∙ ne_eqb shown 1 w.if-shifted-eq1.false)) w.indices-is w.cells-is w.used-is)
+          (λ w. gathered_same (gathered_past known inside (reached c.before ∙ ne_eqb shown 1 w.if-shifted-eq1.false)) w.indices-is w.cells-is w.used-is)
           c.if-shifted-eq1.branch-raw,
     )
 

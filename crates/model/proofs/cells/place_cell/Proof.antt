@@ -18,9 +18,8 @@ given s = record { index = s.args.x; value = s.args.value }
 -- its place is among the cells or at their end
 inside : (p : tie.After-place_of-at) → p.place_of-at.result ≤ p.args.used
 inside p =
-    let s = p in
-    let run = take s.args.used s.args.indices.now in
-    omega (arith, p.place_of-at.ensures, place_most s.args.x run, length-take-le s.args.used s.args.indices.now (omega arith))
+    let run = take p.args.used p.args.indices.now in
+    omega (arith, p.place_of-at.ensures, place_most p.args.x run, length-take-le p.args.used p.args.indices.now (omega arith))
 
 place_of_requires : tie.Need-place_of-at-requires
 place_of_requires c κs = search rules
@@ -30,8 +29,7 @@ stands_requires c κs = search rules
 
 returns : tie.Need-returns-then-stands
 returns c = λ listed indices₀ values₀ known.
-    let p = c in
-    placed_none (given p.before.before.before) known p.place_of-at.result p.place_of-at.ensures (sym c.stands.ensures ∙ c.if-stands.true)
+    placed_none (given c.before.before.before) known c.place_of-at.result c.place_of-at.ensures (sym c.stands.ensures ∙ c.if-stands.true)
 
 insert_requires : tie.Need-insert-requires
 insert_requires c κs = let p = c in (inside p.before.before.before, omega arith)
@@ -44,11 +42,8 @@ add_result c = search rules
 
 returns_2 : tie.Need-returns
 returns_2 c = λ listed indices₀ values₀ known.
-    let e = c in
-    let p = e in
-    let s = p in
     listing_same
-    (placed_one (given s.before.before.before.before.before.before.before) known p.place_of-at.result p.place_of-at.ensures (sym e.stands.ensures ∙ e.if-stands.false) (omega arith) (omega arith))
+    (placed_one (given c.before.before.before.before.before.before.before) known c.place_of-at.result c.place_of-at.ensures (sym c.stands.ensures ∙ c.if-stands.false) (omega arith) (omega arith))
     c.insert.ensures c.insert-2.ensures refl
 
 pub place_cell_spec : {M : Type 1} → statement M

@@ -39,9 +39,7 @@ element_copy_out_index c = omega arith
 
 returns : tie.Need-returns-then-x-index invariant_loop decreases_loop
 returns c =
-    let i = c in
-    let s = i in
-    sought_here s.args.x (run s.before.before.before.before.before) i.loop-at.at (omega (arith, long s.before.before.before.before.before)) (subst (λ (y : ℕ). s.args.x ≤ y) (at_place i.before.before.before) c.if-x-index.true) i.loop-at.invariant.1
+    sought_here c.args.x (run c.before.before.before.before.before) c.loop-at.at (omega (arith, long c.before.before.before.before.before)) (subst (λ (y : ℕ). c.args.x ≤ y) (at_place c.before.before.before) c.if-x-index.true) c.loop-at.invariant.1
 
 add_at : tie.Need-overflow_add-at invariant_loop decreases_loop
 add_at c = omega arith
@@ -51,15 +49,12 @@ loop_less c = omega arith
 
 loop_again : tie.Need-loop-at-preserved invariant_loop decreases_loop
 loop_again c =
-    let i = c in
-    let s = i in
-    (omega arith, sought_next s.args.x (run s.before.before.before.before.before) i.loop-at.at (omega (arith, long s.before.before.before.before.before)) (subst (λ (y : ℕ). y < s.args.x) (at_place i.before.before.before) c.if-x-index.false) i.loop-at.invariant.1)
+    (omega arith, sought_next c.args.x (run c.before.before.before.before.before) c.loop-at.at (omega (arith, long c.before.before.before.before.before)) (subst (λ (y : ℕ). y < c.args.x) (at_place c.before.before.before) c.if-x-index.false) c.loop-at.invariant.1)
 
 returns_2 : tie.Need-returns invariant_loop decreases_loop
 returns_2 c =
-    let s = c in
-    let here : c.loop-at.at ≡ length (run s.before.before) = omega (arith, long s.before.before) in
-    sym (long s.before.before) ∙ sought_none s.args.x (run s.before.before) (subst (SoughtFrom s.args.x (run s.before.before)) here c.loop-at.invariant.1)
+    let here : c.loop-at.at ≡ length (run c.before.before) = omega (arith, long c.before.before) in
+    sym (long c.before.before) ∙ sought_none c.args.x (run c.before.before) (subst (SoughtFrom c.args.x (run c.before.before)) here c.loop-at.invariant.1)
 
 pub place_of_spec : {M : Type 1} → statement M
 place_of_spec =

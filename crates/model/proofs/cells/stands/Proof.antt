@@ -14,8 +14,7 @@ long s = length-take-le s.args.used s.args.indices.now (omega arith)
 
 returns : tie.Need-returns-then-used-at
 returns c =
-    let s = c in
-    sym (stands_past s.args.x s.args.at (take s.args.used s.args.indices.now) (omega (arith, long s.before)))
+    sym (stands_past c.args.x c.args.at (take c.args.used c.args.indices.now) (omega (arith, long c.before)))
 
 mul_index : tie.Need-offset_bounds-indices-at
 mul_index c = search rules
@@ -25,10 +24,9 @@ element_copy_out_index c = search rules
 
 returns_2 : tie.Need-returns
 returns_2 c =
-    let s = c in
     sym
-    (stands_inside s.args.x s.args.at (take s.args.used s.args.indices.now) (omega (arith, long s.before.before.before))
-    ∙ rw (get_or-take s.args.used s.args.indices.now s.args.at 0 (omega arith)))
+    (stands_inside c.args.x c.args.at (take c.args.used c.args.indices.now) (omega (arith, long c.before.before.before))
+    ∙ rw (get_or-take c.args.used c.args.indices.now c.args.at 0 (omega arith)))
 
 pub stands_spec : {M : Type 1} → statement M
 stands_spec = tie.close (tie.spec returns mul_index element_copy_out_index returns_2)
