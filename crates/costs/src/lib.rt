@@ -1,7 +1,7 @@
 // The distances between array terms (02, E6): what the cheapest walk costs, a write 49 and any other edge 1. Each array term is settled once.
 #![tactic(auto)]
 
-ghost use Rattle.std.specs.Prelude.{◌≡◌, ◌^◌, ◌<◌, length, replicate};
+ghost use Rattle.std.specs.Prelude.{ℕ, ◌≡◌, ◌^◌, ◌<◌, ◌≤◌, [], length, replicate, get_or};
 ghost use Rattle.paper.specs.Sizes.{max_arrays};
 ghost use Rattle.reach.specs.Reached.{open_to};
 ghost use Rattle.reach.specs.Steps.{Lent};
@@ -133,7 +133,7 @@ fn distances_from<'a>(
 }
 
 // The distances from each array term to each, over the edges open to index value x, into a table of 48 rows that is lent: each with 255
-// where there is no walk.
+// where there is no walk. The rows of numbers that are no array terms stay.
 // An edge's ends differ in their distance by its cost at the most, so that the last seven bits of a distance tell all that the path asks.
 pub fn put_distances<'a>(
     values: &'a [u64; MAX_BASES],
@@ -145,7 +145,8 @@ pub fn put_distances<'a>(
     table: &mut [[u8; MAX_ARRAYS]; MAX_ARRAYS],
 )
     requires { Lent edges.now count arrays }
-    ensures { Distances (open_to values.now truths.now edges.now count) x arrays table.new }
+    ensures rows { Distances (open_to values.now truths.now edges.now count) x arrays table.new }
+    ensures rest { (a : ℕ) → arrays ≤ a → get_or table.new a [] ≡ get_or table.old a [] }
 {
     let mut cheap = [0u64; MAX_ARRAYS];
     let mut writes = [0u64; MAX_ARRAYS];

@@ -1,5 +1,5 @@
 -- `costs::put_distances` meets its contract: each row has the distances from its array term, and those are the paper's. Assumes nothing.
-use Rattle.std.proofs.Common.{ℕ, ◌<◌, length, [], slice_index_or}
+use Rattle.std.proofs.Common.{◌<◌, ◌≢◌, length, [], slice_index_or, get_or-set_other}
 use native.Mathlib.Omega.{arith}
 use mathlib.Core.Path.{refl, ◌∙◌}
 use lib.ListN.{length-set}
@@ -9,7 +9,7 @@ use Rattle.reach.proofs.Words.{lent_ends}
 use Rattle.costs.proofs.put_distances.Goals as goal
 
 pub loop-a-init : goal.loop-a-init
-loop-a-init c = (omega arith, refl, refl, c.told-table, λ j below. absurd (omega arith))
+loop-a-init c = (omega arith, refl, refl, c.told-table, (λ j below. absurd (omega arith)), λ j past. refl)
 
 pub loop-a-preserved : goal.loop-a-preserved
 loop-a-preserved c =
@@ -21,10 +21,15 @@ loop-a-preserved c =
       made.auto.distances ∙ l.invariant.2,
       length-set l.table l.a made.result ∙ l.invariant.3,
       distances_put l.table l.a made.result inside made.ensures l.invariant.4,
+      λ j past. let other : j ≢ l.a = omega arith in rw get_or-set_other (l.invariant.5 j (omega arith)),
     )
 
 pub returns : goal.returns
-returns c = λ a b a_in b_in.
+returns c =
     let args = c.args in
-    distance_is (open_to args.values.now args.truths.now args.edges.now args.count) args.arrays args.x (lent_ends c.requires args.values.now args.truths.now)
-    c.sort_edges.ensures a b (slice_index_or c.loop-a.table a []) a_in b_in (c.loop-a.invariant.4 a (omega arith))
+    record {
+      rows = λ a b a_in b_in.
+          distance_is (open_to args.values.now args.truths.now args.edges.now args.count) args.arrays args.x (lent_ends c.requires args.values.now args.truths.now)
+          c.sort_edges.ensures a b (slice_index_or c.loop-a.table a []) a_in b_in (c.loop-a.invariant.4 a (omega arith));
+      rest = λ a past. c.loop-a.invariant.5 a (omega arith);
+    }

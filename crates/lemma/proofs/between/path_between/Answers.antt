@@ -12,7 +12,6 @@ returns-then-from-goal c =
 pub least_path-requires : goal.least_path-requires
 least_path-requires c =
     let table = c.put_distances in
-    let start = c in
-    let args = start.args in
-    let pre = start.requires in
-    (asked args.values.now args.truths.now args.edges.now args.ways args.arrays pre.lent args.x args.from args.goal pre.from_in pre.reached table.new.table pre.goal_in table.ensures, pre.room)
+    let args = c.args in
+    let pre = c.requires in
+    (asked args.values.now args.truths.now args.edges.now args.ways args.arrays pre.lent args.x args.from args.goal pre.from_in pre.reached table.new.table pre.goal_in table.ensures.rows, pre.room)
