@@ -4,8 +4,8 @@
 
 ghost use Rattle.std.specs.Prelude.{◌≤◌};
 
-use checker::{Checked, Looked, Written};
-use print::PAGE;
+use checker::Verdict;
+use print::Page;
 use std::io::Read;
 
 // More than any query that is asked about.
@@ -20,236 +20,135 @@ const NUMBERS: usize = 13000;
 
 const NUMBER: i32 = -7;
 
-fn wide(byte: u8) -> usize
-    ensures { result ≤ 255 }
-{
-    byte as usize
+// What is asked of a query.
+#[derive(Clone, Copy)]
+enum Question {
+    Verdict,
+    Check { room: usize },
+    Lookup { array: u64, index: u64 },
+    Clauses { room: usize },
 }
 
-// A number of two bytes; 0 where there is none, which no question is then made of.
-fn take_two(input: &mut impl Read) -> usize
-    ensures { result ≤ 65535 }
+// So many bytes, and 0 for each that is not there: a question that is cut short is answered as it was.
+fn take<const N: usize>(input: &mut impl Read) -> [u8; N]
+    requires { N ≤ 8 }
 {
-    let mut bytes = [0u8; 2];
-    print::fill(input, &mut bytes, 2);
-    wide(bytes[0]) * 256 + wide(bytes[1])
+    let mut bytes = [0; N];
+    print::read_full(input, &mut bytes);
+    bytes
+}
+
+fn take_two(input: &mut impl Read) -> usize {
+    usize::from(u16::from_be_bytes(take(input)))
 }
 
 fn take_eight(input: &mut impl Read) -> u64 {
-    let mut bytes = [0u8; 8];
-    print::fill(input, &mut bytes, 8);
-    let mut number = 0u64;
-    for byte in bytes {
-        number = (number << 8) | wide(byte) as u64;
-    }
-    number
-}
-
-fn put_refused(
-    rt: &(impl Print + Eprint),
-    page: &mut [u8; PAGE],
-    number: u8,
-    offset: usize,
-) -> usize {
-    let mut used = print::text(rt, page, 0, b"refused");
-    used = print::then_number(rt, page, used, number as u64);
-    used = print::then_number(rt, page, used, offset as u64);
-    print::end_line(rt, page, used)
-}
-
-// The hex digit of the low four bits.
-fn digit(byte: u8) -> u8 {
-    let low = byte % 16;
-    if low < 10 {
-        b'0' + low
-    } else {
-        b'a' - 10 + low
-    }
+    u64::from_be_bytes(take(input))
 }
 
 // "then the buffer of that room in hex"
-fn put_bytes(
-    rt: &(impl Print + Eprint),
-    page: &mut [u8; PAGE],
-    used: usize,
-    bytes: &[u8],
-) -> usize {
-    let mut stand = used;
+fn put_bytes(page: &mut Page<'_, impl Print + Eprint>, bytes: &[u8]) {
     for byte in bytes {
-        stand = print::byte(rt, page, stand, digit(*byte / 16));
-        stand = print::byte(rt, page, stand, digit(*byte));
+        write!(page, "{byte:02x}");
     }
-    print::end_line(rt, page, stand)
+    writeln!(page);
 }
 
-fn put_numbers(
-    rt: &(impl Print + Eprint),
-    page: &mut [u8; PAGE],
-    used: usize,
-    numbers: &[i32],
-) -> usize {
-    let mut stand = used;
+fn put_numbers(page: &mut Page<'_, impl Print + Eprint>, numbers: &[i32]) {
     for (k, number) in numbers.iter().enumerate() {
         if k > 0 {
-            stand = print::byte(rt, page, stand, b' ');
+            write!(page, " ");
         }
-        stand = print::signed(rt, page, stand, *number);
+        write!(page, "{number}");
     }
-    print::end_line(rt, page, stand)
+    writeln!(page);
 }
 
-// "then a line `.`"
-fn close(rt: &(impl Print + Eprint), page: &mut [u8; PAGE], used: usize) {
-    let stand = print::text(rt, page, used, b".\n");
-    print::finish(rt, page, stand);
+fn answer_check(page: &mut Page<'_, impl Print + Eprint>, query: &[u8], answer: &mut [u8]) {
+    match checker::check(query, answer) {
+        Err(refusal) => writeln!(page, "{refusal}"),
+        Ok(Verdict::Consistent { pairs }) => writeln!(page, "consistent {pairs}"),
+        Ok(Verdict::Conflict { pairs, length }) => writeln!(page, "conflict {pairs} {length}"),
+    }
+    put_bytes(page, answer);
 }
 
-fn put_checked(rt: &(impl Print + Eprint), page: &mut [u8; PAGE], checked: Checked) -> usize {
-    match checked {
-        Checked::Refused(refusal) => put_refused(rt, page, refusal.number, refusal.offset),
-        Checked::Consistent(pairs) => {
-            let mut used = print::text(rt, page, 0, b"consistent");
-            used = print::then_number(rt, page, used, pairs as u64);
-            print::end_line(rt, page, used)
-        }
-        Checked::Conflict(pairs, length) => {
-            let mut used = print::text(rt, page, 0, b"conflict");
-            used = print::then_number(rt, page, used, pairs as u64);
-            used = print::then_number(rt, page, used, length as u64);
-            print::end_line(rt, page, used)
-        }
+fn answer_lookup(page: &mut Page<'_, impl Print + Eprint>, query: &[u8], array: u64, index: u64) {
+    match checker::lookup(query, array, index) {
+        Err(refusal) => writeln!(page, "{refusal}"),
+        Ok(value) => writeln!(page, "{value}"),
     }
 }
 
-fn answer_check(rt: &(impl Print + Eprint), query: &[u8], answer: &mut [u8]) {
-    let mut page = [0u8; PAGE];
-    let checked = checker::check(query, answer);
-    let mut used = put_checked(rt, &mut page, checked);
-    used = put_bytes(rt, &mut page, used, answer);
-    close(rt, &mut page, used);
-}
-
-fn check_room(rt: &(impl Print + Eprint), query: &[u8], answer: &mut [u8], room: usize) {
-    if room <= answer.len() {
-        answer_check(rt, query, &mut answer[..room]);
-    }
-}
-
-fn answer_lookup(rt: &(impl Print + Eprint), query: &[u8], array: u64, index: u64) {
-    let mut page = [0u8; PAGE];
-    let looked = checker::lookup(query, array, index);
-    let mut used = 0;
-    match looked {
-        Looked::Refused(refusal) => {
-            used = put_refused(rt, &mut page, refusal.number, refusal.offset);
-        }
-        Looked::Value(value) => {
-            used = print::number(rt, &mut page, 0, value);
-            used = print::end_line(rt, &mut page, used);
+fn answer_clauses(page: &mut Page<'_, impl Print + Eprint>, query: &[u8], numbers: &mut [i32]) {
+    match checker::clauses(query, numbers) {
+        Err(refusal) => writeln!(page, "{refusal}"),
+        Ok(totals) => {
+            let (variables, clauses) = (totals.variables, totals.clauses);
+            writeln!(page, "{variables} {clauses} {}", totals.count);
         }
     }
-    close(rt, &mut page, used);
+    put_numbers(page, numbers);
 }
 
-fn put_written(rt: &(impl Print + Eprint), page: &mut [u8; PAGE], written: Written) -> usize {
-    match written {
-        Written::Refused(refusal) => put_refused(rt, page, refusal.number, refusal.offset),
-        Written::Clauses(totals) => {
-            let mut used = print::number(rt, page, 0, totals.variables as u64);
-            used = print::then_number(rt, page, used, totals.clauses as u64);
-            used = print::then_number(rt, page, used, totals.count as u64);
-            print::end_line(rt, page, used)
-        }
-    }
-}
-
-fn answer_clauses(rt: &(impl Print + Eprint), query: &[u8], numbers: &mut [i32]) {
-    let mut page = [0u8; PAGE];
-    let written = checker::clauses(query, numbers);
-    let mut used = put_written(rt, &mut page, written);
-    used = put_numbers(rt, &mut page, used, numbers);
-    close(rt, &mut page, used);
-}
-
-fn clauses_room(rt: &(impl Print + Eprint), query: &[u8], numbers: &mut [i32], room: usize) {
-    if room <= numbers.len() {
-        answer_clauses(rt, query, &mut numbers[..room]);
-    }
-}
-
-fn answer_verdict(rt: &(impl Print + Eprint), query: &[u8]) {
-    let mut page = [0u8; PAGE];
-    lines::verdict(rt, query);
-    close(rt, &mut page, 0);
-}
-
+// The answer's lines; none where more room is asked for than there is.
 fn answer(
-    rt: &(impl Print + Eprint),
-    question: u8,
-    room: usize,
-    array: u64,
-    index: u64,
+    page: &mut Page<'_, impl Print + Eprint>,
+    question: Question,
     query: &[u8],
-) {
+) -> Option<()> {
     match question {
-        b'V' => answer_verdict(rt, query),
-        b'K' => {
+        Question::Verdict => lines::verdict(page, query),
+        Question::Check { room } => {
             let mut bytes = [BYTE; BYTES];
-            check_room(rt, query, &mut bytes, room);
+            answer_check(page, query, bytes.get_mut(..room)?);
         }
-        b'L' => answer_lookup(rt, query, array, index),
-        _ => {
+        Question::Lookup { array, index } => answer_lookup(page, query, array, index),
+        Question::Clauses { room } => {
             let mut numbers = [NUMBER; NUMBERS];
-            clauses_room(rt, query, &mut numbers, room);
+            answer_clauses(page, query, numbers.get_mut(..room)?);
         }
     }
+    // "then a line `.`"
+    writeln!(page, ".");
+    Some(())
 }
 
-fn answer_front(
-    rt: &(impl Print + Eprint),
-    question: u8,
-    room: usize,
-    array: u64,
-    index: u64,
-    bytes: &[u8],
-    length: usize,
-) {
-    if length <= bytes.len() {
-        answer(rt, question, room, array, index, &bytes[..length]);
-    }
+fn take_question(input: &mut impl Read) -> Option<Question> {
+    let mut tag = [0u8; 1];
+    print::fill(input, &mut tag, 1)?;
+    let question = match tag {
+        [b'V'] => Question::Verdict,
+        [b'K'] => Question::Check {
+            room: take_two(input),
+        },
+        [b'L'] => Question::Lookup {
+            array: take_eight(input),
+            index: take_eight(input),
+        },
+        [b'C'] => Question::Clauses {
+            room: take_two(input),
+        },
+        _ => Question::Clauses { room: 0 },
+    };
+    Some(question)
 }
 
-// Takes one question, and answers whether there was one.
-fn take_one(rt: &(impl Print + Eprint), input: &mut impl Read) -> bool {
-    let mut head = [0u8; 1];
-    if !print::fill(input, &mut head, 1) {
-        return false;
-    }
-    let question = head[0];
-    let mut room = 0;
-    let mut array = 0;
-    let mut index = 0;
-    if question == b'L' {
-        array = take_eight(input);
-        index = take_eight(input);
-    }
-    if question == b'K' || question == b'C' {
-        room = take_two(input);
-    }
+// Takes one question and answers it: none where there is no other, or not all of it.
+fn take_one(rt: &(impl Print + Eprint), input: &mut impl Read) -> Option<()> {
+    let question = take_question(input)?;
     let length = take_two(input);
-    let mut bytes = [0u8; QUERY];
-    if !print::fill(input, &mut bytes, length) {
-        return false;
-    }
-    answer_front(rt, question, room, array, index, &bytes, length);
-    true
+    let mut room = [0u8; QUERY];
+    let query = print::fill(input, &mut room, length)?;
+    let _ = answer(&mut Page::new(rt), question, query);
+    Some(())
 }
 
 // A proved loop has to end, so it has a last turn.
 fn main(rt: HostRuntime) {
     let mut input = rt.stdin();
     for _ in 0..u64::MAX {
-        if !take_one(&rt, &mut input) {
+        if take_one(&rt, &mut input).is_none() {
             break;
         }
     }

@@ -1,6 +1,6 @@
 -- The laws that the functions' proofs cite.
-pub mod Looks
 pub mod Copies
+pub mod Looks
 pub mod Sizes
 pub mod Writes
 pub mod Told

@@ -1,6 +1,7 @@
 -- Each answer is told by its report, and so by the paper's answer; and what stands in a buffer that was written over.
 -- Assumes nothing.
-use Prim.Native.Nat.{ℕ}
+use Prim.Native.Nat.{ℕ, zero, suc, ◌≤◌}
+use native.Mathlib.Omega.{arith}
 use mathlib.Core.Path.{◌≡◌, refl, sym, ap, ◌∙◌}
 use mathlib.Core.Bool.{Bool, true, false, cond, not}
 use mathlib.Core.List.{List, [], ◌∷◌, map}
@@ -13,50 +14,87 @@ use Rattle.paper.specs.Cells.{Cell}
 use Rattle.paper.specs.Answers.{Verdict, written_over}
 use Rattle.paper.specs.Answers as Paper
 use Rattle.meaning.proofs.Cells.{cell_with, value_with}
-use Rattle.checker.specs.declared.Checked.{Checked}
-use Rattle.checker.specs.declared.Checked.TheVariants.{Refused, Consistent, Conflict}
-use Rattle.checker.specs.declared.Looked.{Looked}
-use Rattle.checker.specs.declared.Looked.TheVariants.{Refused as NotLooked, Value}
-use Rattle.checker.specs.declared.Listed.{Listed}
-use Rattle.checker.specs.declared.Listed.TheVariants.{Refused as NotListed, Cells}
-use Rattle.checker.specs.declared.Written.{Written}
-use Rattle.checker.specs.declared.Written.TheVariants.{Refused as NotWritten, Clauses}
-use Rattle.checker.specs.Reports.{Report, report_of, reported, LookReport, look_report_of, look_reported, ListReport, list_report_of, list_reported, WriteReport, write_report_of, write_reported}
+use Rattle.std.specs.Prelude.{Ok, Err}
+use Rattle.paper.specs.declared.Refusal.{Refusal}
+use Rattle.paper.specs.declared.Reason.{Reason}
+use Rattle.paper.specs.declared.Reason.TheVariants.{TooLong, RunsPastEnd, UnknownTag, WrongLength, TooMany, NotGiven, WrongTruth, WrongWitness, EqualWitnesses, NoRoom, NoCell, OtherVerdict}
+use Rattle.paper.specs.Reasons.{number_of, reason_of}
+use Rattle.checker.specs.declared.Verdict.TheVariants.{Consistent, Conflict}
+use Rattle.checker.specs.Reports.{Checked, Looked, Listed, Written, Report, report_of, reported, LookReport, look_report_of, look_reported, ListReport, list_report_of, list_reported, WriteReport, write_report_of, write_reported}
 use Rattle.checker.specs.Reports.{CheckedAs, ListedAs, beside, WrittenAs}
 
+-- a reason is that of its number
+reason_told : (reason : Reason) → reason ≡ reason_of (number_of reason)
+reason_told TooLong = refl
+reason_told RunsPastEnd = refl
+reason_told UnknownTag = refl
+reason_told WrongLength = refl
+reason_told TooMany = refl
+reason_told NotGiven = refl
+reason_told WrongTruth = refl
+reason_told WrongWitness = refl
+reason_told EqualWitnesses = refl
+reason_told NoRoom = refl
+reason_told NoCell = refl
+reason_told OtherVerdict = refl
+
+-- and 1 to 12 have one
+pub numbered : (n : ℕ) → 1 ≤ n → n ≤ 12 → number_of (reason_of n) ≡ n
+numbered zero above below = absurd (omega (arith, above))
+numbered (suc zero) above below = refl
+numbered (suc (suc zero)) above below = refl
+numbered (suc (suc (suc zero))) above below = refl
+numbered (suc (suc (suc (suc zero)))) above below = refl
+numbered (suc (suc (suc (suc (suc zero))))) above below = refl
+numbered (suc (suc (suc (suc (suc (suc zero)))))) above below = refl
+numbered (suc (suc (suc (suc (suc (suc (suc zero))))))) above below = refl
+numbered (suc (suc (suc (suc (suc (suc (suc (suc zero)))))))) above below = refl
+numbered (suc (suc (suc (suc (suc (suc (suc (suc (suc zero))))))))) above below = refl
+numbered (suc (suc (suc (suc (suc (suc (suc (suc (suc (suc zero)))))))))) above below = refl
+numbered (suc (suc (suc (suc (suc (suc (suc (suc (suc (suc (suc zero))))))))))) above below = refl
+numbered (suc (suc (suc (suc (suc (suc (suc (suc (suc (suc (suc (suc zero)))))))))))) above below = refl
+numbered (suc (suc (suc (suc (suc (suc (suc (suc (suc (suc (suc (suc (suc n))))))))))))) above below = absurd (omega (arith, below))
+
+-- the refusal with a number and an offset
+abbrev pub refusal_by : (number offset : ℕ) → Refusal
+refusal_by number offset = record { reason = reason_of number; offset = offset }
+
+refusal_told : (refusal : Refusal) → refusal ≡ refusal_by (number_of refusal.reason) refusal.offset
+refusal_told refusal = ap (λ (reason : Reason). let r : Refusal = record { reason = reason; offset = refusal.offset } in r) (reason_told refusal.reason)
+
 abbrev pub checked_by : Verdict → Report → Checked
-checked_by Verdict.refused report = Refused (record { number = report.refusal; offset = report.offset })
-checked_by Verdict.consistent report = Consistent report.pairs
-checked_by Verdict.in_conflict report = Conflict report.pairs report.length
+checked_by Verdict.refused report = Err (refusal_by report.refusal report.offset)
+checked_by Verdict.consistent report = Ok (Consistent report.pairs)
+checked_by Verdict.in_conflict report = Ok (Conflict report.pairs report.length)
 
 pub checked_told : (r : Checked) → r ≡ checked_by (report_of r).verdict (report_of r)
-checked_told (Refused refusal) = refl
-checked_told (Consistent pairs) = refl
-checked_told (Conflict pairs long) = refl
+checked_told (Err refusal) = ap Err (refusal_told refusal)
+checked_told (Ok (Consistent pairs)) = refl
+checked_told (Ok (Conflict pairs long)) = refl
 
 abbrev pub looked_by : Bool → LookReport → Looked
-looked_by true report = NotLooked (record { number = report.refusal; offset = report.offset })
-looked_by false report = Value report.value
+looked_by true report = Err (refusal_by report.refusal report.offset)
+looked_by false report = Ok report.value
 
 pub looked_told : (r : Looked) → r ≡ looked_by (look_report_of r).refused (look_report_of r)
-looked_told (NotLooked refusal) = refl
-looked_told (Value value) = refl
+looked_told (Err refusal) = ap Err (refusal_told refusal)
+looked_told (Ok value) = refl
 
 abbrev pub listed_by : Bool → ListReport → Listed
-listed_by true report = NotListed (record { number = report.refusal; offset = report.offset })
-listed_by false report = Cells report.count
+listed_by true report = Err (refusal_by report.refusal report.offset)
+listed_by false report = Ok report.count
 
 pub listed_told : (r : Listed) → r ≡ listed_by (list_report_of r).refused (list_report_of r)
-listed_told (NotListed refusal) = refl
-listed_told (Cells count) = refl
+listed_told (Err refusal) = ap Err (refusal_told refusal)
+listed_told (Ok count) = refl
 
 abbrev pub written_by : Bool → WriteReport → Written
-written_by true report = NotWritten (record { number = report.refusal; offset = report.offset })
-written_by false report = Clauses (record { variables = report.variables; clauses = report.clauses; count = report.count })
+written_by true report = Err (refusal_by report.refusal report.offset)
+written_by false report = Ok (record { variables = report.variables; clauses = report.clauses; count = report.count })
 
 pub written_told : (r : Written) → r ≡ written_by (write_report_of r).refused (write_report_of r)
-written_told (NotWritten refusal) = refl
-written_told (Clauses totals) = refl
+written_told (Err refusal) = ap Err (refusal_told refusal)
+written_told (Ok totals) = refl
 
 -- The first so many elements of a buffer are written over: they stand first in it, and the rest stays
 pub record Over {A : Type 0} (before after written : List A) (long : ℕ) : Type 0 where

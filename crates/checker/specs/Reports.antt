@@ -1,17 +1,26 @@
--- The answers of the public functions, by number: what each case of an answer's enum is in the paper, and what a call is to answer and leave
+-- The answers of the public functions, by number: what each case of an answer is in the paper, and what a call is to answer and leave
 -- in its buffer.
 -- Assumes nothing.
-use Rattle.std.specs.Prelude.{ℕ, ◌≡◌, Bool, true, false, cond, not, List, [], ◌∷◌, map, eqb, ltb, ℤ, length}
+use Rattle.std.specs.Prelude.{ℕ, ◌≡◌, Bool, true, false, cond, not, List, [], ◌∷◌, map, eqb, ltb, ℤ, length, Result, Ok, Err}
 use Rattle.paper.specs.Answers.{Verdict, written_over}
 use Rattle.paper.specs.Answers as Paper
-use Rattle.checker.specs.declared.Checked.{Checked}
-use Rattle.checker.specs.declared.Checked.TheVariants.{Refused, Consistent, Conflict}
-use Rattle.checker.specs.declared.Looked.{Looked}
-use Rattle.checker.specs.declared.Looked.TheVariants.{Refused as NotLooked, Value}
-use Rattle.checker.specs.declared.Listed.{Listed}
-use Rattle.checker.specs.declared.Listed.TheVariants.{Refused as NotListed, Cells}
-use Rattle.checker.specs.declared.Written.{Written}
-use Rattle.checker.specs.declared.Written.TheVariants.{Refused as NotWritten, Clauses}
+use Rattle.paper.specs.declared.Refusal.{Refusal}
+use Rattle.paper.specs.Reasons.{number_of}
+use Rattle.checker.specs.declared.Verdict as Found
+use Rattle.checker.specs.declared.Totals.{Totals}
+
+-- What the calls answer: a refusal, or a verdict; the model's value; how many cells there are; or the totals of the clauses
+abbrev pub Checked : Type 0
+Checked = Result Found.Verdict Refusal
+
+abbrev pub Looked : Type 0
+Looked = Result ℕ Refusal
+
+abbrev pub Listed : Type 0
+Listed = Result ℕ Refusal
+
+abbrev pub Written : Type 0
+Written = Result Totals Refusal
 
 -- A check's report: the verdict, the refusal with its offset, the pairs, and the length of the lemma
 pub record Report : Type 0 where
@@ -23,9 +32,9 @@ pub record Report : Type 0 where
 
 -- what each case of the answer is
 abbrev pub report_of : Checked → Report
-report_of (Refused refusal) = record { verdict = Verdict.refused; refusal = refusal.number; offset = refusal.offset; pairs = 0; length = 0 }
-report_of (Consistent pairs) = record { verdict = Verdict.consistent; refusal = 0; offset = 0; pairs = pairs; length = 0 }
-report_of (Conflict pairs length) = record { verdict = Verdict.in_conflict; refusal = 0; offset = 0; pairs = pairs; length = length }
+report_of (Err refusal) = record { verdict = Verdict.refused; refusal = number_of refusal.reason; offset = refusal.offset; pairs = 0; length = 0 }
+report_of (Ok (Found.TheVariants.Consistent pairs)) = record { verdict = Verdict.consistent; refusal = 0; offset = 0; pairs = pairs; length = 0 }
+report_of (Ok (Found.TheVariants.Conflict pairs length)) = record { verdict = Verdict.in_conflict; refusal = 0; offset = 0; pairs = pairs; length = length }
 
 -- what the paper's answer reports
 abbrev pub reported : Paper.Checked → Report
@@ -45,8 +54,8 @@ pub record LookReport : Type 0 where
   pub value : ℕ
 
 abbrev pub look_report_of : Looked → LookReport
-look_report_of (NotLooked refusal) = record { refused = true; refusal = refusal.number; offset = refusal.offset; value = 0 }
-look_report_of (Value value) = record { refused = false; refusal = 0; offset = 0; value = value }
+look_report_of (Err refusal) = record { refused = true; refusal = number_of refusal.reason; offset = refusal.offset; value = 0 }
+look_report_of (Ok value) = record { refused = false; refusal = 0; offset = 0; value = value }
 
 abbrev pub look_reported : Paper.Looked → LookReport
 look_reported answer = record { refused = not (eqb answer.refusal 0); refusal = answer.refusal; offset = answer.offset; value = answer.value }
@@ -59,8 +68,8 @@ pub record ListReport : Type 0 where
   pub count : ℕ
 
 abbrev pub list_report_of : Listed → ListReport
-list_report_of (NotListed refusal) = record { refused = true; refusal = refusal.number; offset = refusal.offset; count = 0 }
-list_report_of (Cells count) = record { refused = false; refusal = 0; offset = 0; count = count }
+list_report_of (Err refusal) = record { refused = true; refusal = number_of refusal.reason; offset = refusal.offset; count = 0 }
+list_report_of (Ok count) = record { refused = false; refusal = 0; offset = 0; count = count }
 
 abbrev pub list_reported : Paper.Listed → ListReport
 list_reported answer = record { refused = not (eqb answer.refusal 0); refusal = answer.refusal; offset = answer.offset; count = length answer.listed }
@@ -91,8 +100,8 @@ pub record WriteReport : Type 0 where
   pub count : ℕ
 
 abbrev pub write_report_of : Written → WriteReport
-write_report_of (NotWritten refusal) = record { refused = true; refusal = refusal.number; offset = refusal.offset; variables = 0; clauses = 0; count = 0 }
-write_report_of (Clauses totals) = record { refused = false; refusal = 0; offset = 0; variables = totals.variables; clauses = totals.clauses; count = totals.count }
+write_report_of (Err refusal) = record { refused = true; refusal = number_of refusal.reason; offset = refusal.offset; variables = 0; clauses = 0; count = 0 }
+write_report_of (Ok totals) = record { refused = false; refusal = 0; offset = 0; variables = totals.variables; clauses = totals.clauses; count = totals.count }
 
 abbrev pub write_reported : Paper.Written → WriteReport
 write_reported answer =

@@ -1,110 +1,109 @@
--- The pieces that a literal brings, and how they follow from its tag.
+-- The pieces that a literal brings.
 -- Assumes nothing.
 use Prim.Native.Nat.{ℕ, zero, suc, ◌+◌, ◌-◌, ◌*◌, ◌<◌}
 use native.Mathlib.Omega.{arith}
-use mathlib.Core.Path.{◌≡◌, refl, ap, ◌∙◌}
-use mathlib.Core.Bool.{Bool, true, false, cond}
+use mathlib.Core.Path.{◌≡◌, refl, sym, ap, ◌∙◌}
 use mathlib.Core.List.{List, [], ◌∷◌, ◌++◌, map}
-use lib.Dec.{eqb}
-use lib.IntN.{ℤ, pos}
+use mir.Syntax.{w32}
+use mir.Val.{SFits, to_z, of_z}
+use mir.ValLaws.{to_z-of_z}
+use lib.IntN.{ℤ, pos, neg_ℤ, ◌-ℤ◌, +ℤ_idl}
 use lib.ListN.{length, get_or}
-use borrow.Author.Tests.{ne_eqb}
 use Rattle.paper.specs.Lists.{concat_map, range}
-use Rattle.paper.specs.Lemma.{Literal}
-use Rattle.paper.specs.Clauses.{plus, fresh, Clause, differing, agreeing, all_agree, gadget}
+use Rattle.paper.specs.Clauses.{plus, fresh, Clause, differing, agreeing, gadget}
 use Rattle.meaning.proofs.Lists.{concat_map_append}
 use Rattle.meaning.proofs.Mapped.{length_over_range}
-use Rattle.lemma.specs.Rows.{literal_from}
 use Rattle.cnf.specs.declared.numbers.Sizes.{Sizes}
-use Rattle.cnf.specs.declared.literal.Placed.{Placed}
-use Rattle.cnf.specs.Parts.{numbers_of, closed, bit_clauses, gadget_of}
+use Rattle.cnf.specs.declared.placed.Placed.{Placed}
+use Rattle.lemma.specs.declared.rows.Literal.{Literal}
+use Rattle.lemma.specs.declared.rows.Literal.TheVariants.{Equal, Differ, IsTrue, IsFalse, Conclusion}
+use Rattle.lemma.specs.Rows.{literal_in}
+use Rattle.cnf.specs.Parts.{numbers_of, closed, clauses_of_bit, bit_clauses, Compares}
 use Rattle.cnf.proofs.Runs.{range_step}
 
--- any tag but those of "equal", "true" and "false" is of a literal with an e
-pub with_e : (tag : ℕ) → (tag ≡ 0x21 → ⊥) → (tag ≡ 0x23 → ⊥) → (tag ≡ 0x24 → ⊥) → (w n left right : ℕ) → gadget w n (literal_from tag left right) ≡ all_agree w left right n
-with_e tag equal true' false' w n left right = rw (ne_eqb tag 0x21 equal, ne_eqb tag 0x23 true', ne_eqb tag 0x24 false') (go (eqb tag 0x22))
-  where
-    go : (b : Bool) → gadget w n (cond b (Literal.differ left right) (Literal.conclusion left right)) ≡ all_agree w left right n
-    go true = refl
-    go false = refl
+-- A variable's number as 32 bits store it, as it stands and reversed
+stored_fits : (n : ℕ) → n < 2147483648 → SFits w32 (pos n)
+stored_fits n h = record { sfits = omega arith }
+
+negative_fits : (n : ℕ) → n < 2147483648 → SFits w32 (neg_ℤ (pos n))
+negative_fits zero h = record { sfits = omega arith }
+negative_fits (suc n) h = record { sfits = omega arith }
+
+pub as_it_is : {x : ℤ} (n : ℕ) → (x ≡ pos n) × (n < 2147483648) → to_z w32 (of_z w32 x) ≡ pos n
+as_it_is n h = rw h.0 (to_z-of_z w32 (pos n) (stored_fits n h.1))
+
+pub reversed : {x : ℤ} (n : ℕ) → (x ≡ pos n) × (n < 2147483648) → to_z w32 (of_z w32 (pos 0 -ℤ to_z w32 (of_z w32 x))) ≡ neg_ℤ (pos n)
+reversed n h = rw (as_it_is n h, +ℤ_idl (neg_ℤ (pos n))) (to_z-of_z w32 (neg_ℤ (pos n)) (negative_fits n h.1))
 
 -- one of a bit's two clauses, in numbers
-abbrev pub side : Sizes → Placed → (k which : ℕ) → List ℤ
-side sizes literal k which = closed sizes (get_or (bit_clauses literal k) which [])
+abbrev pub side : Sizes → Literal → (n k which : ℕ) → List ℤ
+side sizes literal n k which = closed sizes (get_or (clauses_of_bit literal n k) which [])
 
 -- the clauses of the bits from k on, and the d from bit k on
 abbrev pub bits_from : Sizes → Placed → (k : ℕ) → List ℤ
-bits_from sizes literal k = concat_map (closed sizes) (concat_map (bit_clauses literal) (range k (sizes.width - k)))
+bits_from sizes placed k = concat_map (closed sizes) (concat_map (bit_clauses placed) (range k (sizes.width - k)))
 
 abbrev pub differences_from : Sizes → (n k : ℕ) → List ℤ
 differences_from sizes n k = numbers_of sizes (map (λ bit. plus (fresh (n + bit))) (range k (sizes.width - k)))
 
--- what the two clauses of a bit are goes by whether the literal is "equal"
-by_tag : (literal : Placed) (P : List Clause → Type 0) (k : ℕ)
-    → P (differing literal.left literal.right literal.fresh k) → P (agreeing literal.left literal.right literal.fresh k) → P (bit_clauses literal k)
-by_tag literal P k if_equal otherwise = go (eqb literal.tag 0x21)
-  where
-    go : (b : Bool) → P (cond b (differing literal.left literal.right literal.fresh k) (agreeing literal.left literal.right literal.fresh k))
-    go true = if_equal
-    go false = otherwise
-
-module _ (sizes : Sizes) (literal : Placed) where
-  -- each has three variables
-  pub side_length : (k which : ℕ) → which < 2 → length (side sizes literal k which) ≡ 4
-  side_length k zero h = by_tag literal (λ two. length (closed sizes (get_or two 0 [])) ≡ 4) k refl refl
-  side_length k (suc zero) h = by_tag literal (λ two. length (closed sizes (get_or two 1 [])) ≡ 4) k refl refl
-  side_length k (suc (suc which)) h = absurd (omega arith)
-
-  pub bits_step : (k : ℕ) → k < sizes.width → bits_from sizes literal k ≡ side sizes literal k 0 ++ (side sizes literal k 1 ++ bits_from sizes literal (k + 1))
-  bits_step k h =
-      rw (range_step k sizes.width h, concat_map_append (closed sizes))
-      (by_tag literal (λ two. concat_map (closed sizes) two ++ bits_from sizes literal (k + 1) ≡ closed sizes (get_or two 0 []) ++ (closed sizes (get_or two 1 []) ++ bits_from sizes literal (k + 1)))
-      k refl refl)
-
--- The clauses of a literal by its rank: none for a Boolean one, else two for each bit
-module _ (w : ℕ) (literal : Placed) where
-  -- the literal, by the tests of its tag
-  abbrev tested : (a b c d : Bool) → Literal
-  tested a b c d =
-      cond a (Literal.equal literal.left literal.right)
-      (cond b (Literal.differ literal.left literal.right)
-      (cond c (Literal.is_true literal.left)
-      (cond d (Literal.is_false literal.left)
-      (Literal.conclusion literal.left literal.right))))
-
-  pub no_clauses_lem : (gadget_of w literal).rank ≡ 0 → (gadget_of w literal).clauses ≡ []
-  no_clauses_lem rank = go (eqb literal.tag 0x21) (eqb literal.tag 0x22) (eqb literal.tag 0x23) (eqb literal.tag 0x24) rank
-    where
-      go : (a b c d : Bool) → (gadget w literal.fresh (tested a b c d)).rank ≡ 0 → (gadget w literal.fresh (tested a b c d)).clauses ≡ []
-      go true b c d h = absurd (omega arith)
-      go false true c d h = absurd (omega arith)
-      go false false true d h = refl
-      go false false false true h = refl
-      go false false false false h = absurd (omega arith)
-
-  pub by_bits : ((gadget_of w literal).rank ≡ 0 → ⊥) → (gadget_of w literal).clauses ≡ concat_map (bit_clauses literal) (range 0 w)
-  by_bits rank = go (eqb literal.tag 0x21) (eqb literal.tag 0x22) (eqb literal.tag 0x23) (eqb literal.tag 0x24) rank
-    where
-      bits : Bool → ℕ → List Clause
-      bits a k = cond a (differing literal.left literal.right literal.fresh k) (agreeing literal.left literal.right literal.fresh k)
-
-      go : (a b c d : Bool) → ((gadget w literal.fresh (tested a b c d)).rank ≡ 0 → ⊥) → (gadget w literal.fresh (tested a b c d)).clauses ≡ concat_map (bits a) (range 0 w)
-      go true b c d h = refl
-      go false true c d h = refl
-      go false false true d h = absurd (h refl)
-      go false false false true h = absurd (h refl)
-      go false false false false h = refl
-
-  pub two_clauses : (k : ℕ) → length (bit_clauses literal k) ≡ 2
-  two_clauses k = by_tag literal (λ two. length two ≡ 2) k refl refl
-
-  -- in numbers
-  pub none_count : (gadget_of w literal).rank ≡ 0 → length (gadget_of w literal).clauses ≡ 0
-  none_count rank = ap (λ (all : List Clause). length all) (no_clauses_lem rank)
-
-  pub bits_count : ((gadget_of w literal).rank ≡ 0 → ⊥) → length (gadget_of w literal).clauses ≡ 2 * w
-  bits_count rank = ap (λ (all : List Clause). length all) (by_bits rank) ∙ length_over_range (bit_clauses literal) 2 0 w two_clauses
-
 pub differences_step : (sizes : Sizes) (n k : ℕ) → k < sizes.width
-    → differences_from sizes n k ≡ pos (sizes.width * sizes.bases + sizes.booleans + (n + k) + 1) ∷ differences_from sizes n (k + 1)
+    → differences_from sizes n k ≡ (pos (sizes.width * sizes.bases + sizes.booleans + (n + k) + 1) ∷ []) ++ differences_from sizes n (k + 1)
 differences_step sizes n k h = rw (range_step k sizes.width h)
+
+-- what the two clauses of a bit are goes by the literal
+by_literal : (literal : Literal) (P : List Clause → Type 0) (n k : ℕ) → Compares literal
+    → ((i j : ℕ) → P (differing i j n k)) → ((v w : ℕ) → P (agreeing v w n k)) → P (clauses_of_bit literal n k)
+by_literal (Equal i j) P n k compares differ agree = differ i j
+by_literal (Differ i j) P n k compares differ agree = agree i j
+by_literal (IsTrue m) P n k compares differ agree = absurd compares
+by_literal (IsFalse m) P n k compares differ agree = absurd compares
+by_literal (Conclusion v w) P n k compares differ agree = agree v w
+
+module _ (sizes : Sizes) (literal : Literal) (n : ℕ) (compares : Compares literal) where
+  pub two_sides : (k : ℕ) → map (closed sizes) (clauses_of_bit literal n k) ≡ side sizes literal n k 0 ∷ side sizes literal n k 1 ∷ []
+  two_sides k =
+      by_literal literal (λ two. map (closed sizes) two ≡ closed sizes (get_or two 0 []) ∷ closed sizes (get_or two 1 []) ∷ [])
+      n k compares (λ i j. refl) (λ v w. refl)
+
+  pub side_at : (k which : ℕ) → which < 2 → get_or (map (closed sizes) (clauses_of_bit literal n k)) which [] ≡ side sizes literal n k which
+  side_at k zero h = ap (λ (two : List (List ℤ)). get_or two 0 []) (two_sides k)
+  side_at k (suc zero) h = ap (λ (two : List (List ℤ)). get_or two 1 []) (two_sides k)
+  side_at k (suc (suc which)) h = absurd (omega arith)
+
+pub bits_step : (sizes : Sizes) (placed : Placed) → Compares placed.literal → (k : ℕ) (two : List (List ℤ)) → k < sizes.width
+    → two ≡ map (closed sizes) (bit_clauses placed k)
+    → bits_from sizes placed k ≡ get_or two 0 [] ++ (get_or two 1 [] ++ bits_from sizes placed (k + 1))
+bits_step sizes placed compares k two h same =
+    rw (same, range_step k sizes.width h, concat_map_append (closed sizes))
+    (by_literal placed.literal (λ clauses. concat_map (closed sizes) clauses ++ bits_from sizes placed (k + 1) ≡ get_or (map (closed sizes) clauses) 0 [] ++ (get_or (map (closed sizes) clauses) 1 [] ++ bits_from sizes placed (k + 1)))
+    placed.fresh k compares (λ i j. refl) (λ v w. refl))
+
+-- The clauses of a literal: none for a Boolean one, else two for each bit
+pub no_clauses_lem : (w n : ℕ) (literal : Literal) → (gadget w n (literal_in literal)).rank ≡ 0 → (gadget w n (literal_in literal)).clauses ≡ []
+no_clauses_lem w n (Equal i j) rank = absurd (omega arith)
+no_clauses_lem w n (Differ i j) rank = absurd (omega arith)
+no_clauses_lem w n (IsTrue m) rank = refl
+no_clauses_lem w n (IsFalse m) rank = refl
+no_clauses_lem w n (Conclusion v u) rank = absurd (omega arith)
+
+-- a literal that is neither Boolean compares
+pub compares_unless : (literal : Literal) → ((m : ℕ) → literal ≡ IsTrue m → ⊥) → ((m : ℕ) → literal ≡ IsFalse m → ⊥) → Compares literal
+compares_unless (Equal i j) no_true no_false = tt
+compares_unless (Differ i j) no_true no_false = tt
+compares_unless (IsTrue m) no_true no_false = no_true m refl
+compares_unless (IsFalse m) no_true no_false = no_false m refl
+compares_unless (Conclusion v u) no_true no_false = tt
+
+pub by_bits : (w n : ℕ) (literal : Literal) → Compares literal → (gadget w n (literal_in literal)).clauses ≡ concat_map (clauses_of_bit literal n) (range 0 w)
+by_bits w n (Equal i j) compares = refl
+by_bits w n (Differ i j) compares = refl
+by_bits w n (IsTrue m) compares = absurd compares
+by_bits w n (IsFalse m) compares = absurd compares
+by_bits w n (Conclusion v u) compares = refl
+
+pub two_clauses : (n : ℕ) (literal : Literal) → Compares literal → (k : ℕ) → length (clauses_of_bit literal n k) ≡ 2
+two_clauses n literal compares k = by_literal literal (λ two. length two ≡ 2) n k compares (λ i j. refl) (λ v w. refl)
+
+pub bits_count : (w n : ℕ) (literal : Literal) → Compares literal → 2 * w ≡ length (gadget w n (literal_in literal)).clauses
+bits_count w n literal compares =
+    sym (ap (λ (all : List Clause). length all) (by_bits w n literal compares) ∙ length_over_range (clauses_of_bit literal n) 2 0 w (two_clauses n literal compares))

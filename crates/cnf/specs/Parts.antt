@@ -1,39 +1,34 @@
 -- The pieces in which the clauses (01, The clauses) are written: what a store of a run leaves, a clause with its 0, the two clauses of a
 -- bit, and what a literal brings, by parts.
 -- Assumes nothing.
-use Rattle.std.specs.Prelude.{ℕ, ◌+◌, ◌≤◌, ◌≡◌, Bool, cond, List, [], ◌∷◌, ◌++◌, map, eqb, ℤ, pos, neg_ℤ, length, get_or}
+use Rattle.std.specs.Prelude.{ℕ, ◌+◌, ◌≤◌, ◌≡◌, cond, List, [], ◌∷◌, ◌++◌, map, eqb, ℤ, pos, length, get_or}
 use Rattle.std.proofs.lemmas.List.Edits.{sets}
-use Rattle.paper.specs.Sizes.{max_bases, max_booleans}
 use Rattle.paper.specs.Lists.{concat_map, range}
 use Rattle.paper.specs.Clauses.{plus, fresh, Clause, Gadget, differing, agreeing, gadget, gadgets, linking, signed_number, clauses_of}
-use Rattle.lemma.specs.Rows.{tag_in, left_in, right_in, literal_from, Literals, literals_of}
+use Rattle.lemma.specs.Rows.{literal_in, literals_of}
 use Rattle.cnf.specs.declared.numbers.Sizes.{Sizes}
-use Rattle.cnf.specs.declared.literal.Placed.{Placed}
+use Rattle.cnf.specs.declared.numbers.Run.{Run}
+use Rattle.lemma.specs.declared.rows.Literal.{Literal}
+use Rattle.lemma.specs.declared.rows.Literal.TheVariants.{Equal, Differ, IsTrue, IsFalse, Conclusion}
+use Rattle.cnf.specs.declared.literal.Rank.{Rank}
+use Rattle.cnf.specs.declared.literal.Rank.TheVariants.{Boolean, Difference, Agreement}
+use Rattle.cnf.specs.declared.literal.Part.{Part}
+use Rattle.cnf.specs.declared.literal.Part.TheVariants.{Clauses, Links}
+use Rattle.cnf.specs.declared.placed.Placed.{Placed}
 
 -- A piece was stored from a place on, and nothing else: what is there after it, and the next place
 pub record Put (before after : List ℤ) (at next : ℕ) (piece : List ℤ) : Type 0 where
   pub stored : after ≡ sets before at piece
   pub passed : next ≡ at + length piece
 
--- What keeps every variable's number small: "At most .. 256 base terms, 64 Booleans", and at most 64 bits
-pub record Small (sizes : Sizes) : Type 0 where
-  pub width : sizes.width ≤ 64
-  pub bases : sizes.bases ≤ max_bases
-  pub booleans : sizes.booleans ≤ max_booleans
+-- There is room for a piece in the run; and it was put there, the run being the same one and as long
+abbrev pub Room : Run → (piece : List ℤ) → Type 0
+Room run piece = run.at + length piece ≤ length run.numbers.now
 
--- the same of a literal: term numbers of one byte, and a fresh variable for each bit of at most 49 literals
-pub record Near (literal : Placed) : Type 0 where
-  pub left : literal.left ≤ 255
-  pub right : literal.right ≤ 255
-  pub fresh : literal.fresh ≤ 3136
-
--- literal k of the code's, with its first fresh variable
-abbrev pub placed_at : (rows : List ℕ) (k n : ℕ) → Placed
-placed_at rows k n = let row = get_or rows k 0 in record { tag = tag_in row; left = left_in row; right = right_in row; fresh = n }
-
--- a variable, as it stands or reversed
-abbrev pub signed : Bool → ℕ → ℤ
-signed as_it_is variable = cond as_it_is (pos variable) (neg_ℤ (pos variable))
+pub record Wrote (before after : Run) (piece : List ℤ) : Type 0 where
+  pub put : Put before.numbers.now after.numbers.now before.at after.at piece
+  pub same_run : after.numbers.ghost_name ≡ before.numbers.ghost_name
+  pub same_length : length after.numbers.now ≡ length before.numbers.now
 
 -- a clause in numbers, and closed by 0
 abbrev pub numbers_of : Sizes → Clause → List ℤ
@@ -42,16 +37,28 @@ numbers_of sizes clause = map (signed_number sizes.width sizes.bases sizes.boole
 abbrev pub closed : Sizes → Clause → List ℤ
 closed sizes clause = numbers_of sizes clause ++ (pos 0 ∷ [])
 
--- the two clauses of bit k of a literal that compares
+-- the two clauses of bit k of a literal that compares; a Boolean has none
+abbrev pub clauses_of_bit : Literal → (n k : ℕ) → List Clause
+clauses_of_bit (Equal i j) n k = differing i j n k
+clauses_of_bit (Differ i j) n k = agreeing i j n k
+clauses_of_bit (IsTrue m) n k = []
+clauses_of_bit (IsFalse m) n k = []
+clauses_of_bit (Conclusion v w) n k = agreeing v w n k
+
 abbrev pub bit_clauses : Placed → (k : ℕ) → List Clause
-bit_clauses literal k =
-    cond (eqb literal.tag 0x21)
-    (differing literal.left literal.right literal.fresh k)
-    (agreeing literal.left literal.right literal.fresh k)
+bit_clauses placed k = clauses_of_bit placed.literal placed.fresh k
+
+-- a literal that is no Boolean
+abbrev pub Compares : Literal → Type 0
+Compares (IsTrue m) = ⊥
+Compares (IsFalse m) = ⊥
+Compares (Equal i j) = Unit {0}
+Compares (Differ i j) = Unit {0}
+Compares (Conclusion v w) = Unit {0}
 
 -- its clauses, bit by bit
 abbrev pub bit_numbers : Sizes → Placed → List ℤ
-bit_numbers sizes literal = concat_map (closed sizes) (concat_map (bit_clauses literal) (range 0 sizes.width))
+bit_numbers sizes placed = concat_map (closed sizes) (concat_map (bit_clauses placed) (range 0 sizes.width))
 
 -- the d of an "equal" whose first is fresh variable n
 abbrev pub differences : Sizes → (n : ℕ) → List ℤ
@@ -59,23 +66,27 @@ differences sizes n = numbers_of sizes (map (λ k. plus (fresh (n + k))) (range 
 
 -- what a literal brings
 abbrev pub gadget_of : (w : ℕ) → Placed → Gadget
-gadget_of w literal = gadget w literal.fresh (literal_from literal.tag literal.left literal.right)
+gadget_of w placed = gadget w placed.fresh (literal_in placed.literal)
 
--- the parts of what literals bring, in numbers: 0, 1, 2 the links of that rank, 3 the clauses
-abbrev pub part_of : Sizes → (part : ℕ) → Gadget → List ℤ
-part_of sizes part one =
-    cond (eqb part 3)
-    (concat_map (closed sizes) one.clauses)
-    (numbers_of sizes (cond (eqb one.rank part) one.link []))
+-- the ranks of the linking clause
+abbrev pub rank_number : Rank → ℕ
+rank_number Boolean = 0
+rank_number Difference = 1
+rank_number Agreement = 2
+
+-- a part of what a literal brings, in numbers: its clauses, or its link if that is of the rank
+abbrev pub part_of : Sizes → Part → Gadget → List ℤ
+part_of sizes Clauses one = concat_map (closed sizes) one.clauses
+part_of sizes (Links rank) one = numbers_of sizes (cond (eqb one.rank (rank_number rank)) one.link [])
 
 -- that part of all literals, in order
-abbrev pub all_of : Sizes → (part : ℕ) → Literals → List ℤ
-all_of sizes part literals = concat_map (part_of sizes part) (gadgets sizes.width 0 (literals_of literals))
+abbrev pub all_of : Sizes → Part → (rows : List Literal) → List ℤ
+all_of sizes part rows = concat_map (part_of sizes part) (gadgets sizes.width 0 (literals_of rows))
 
 -- the linking clause
-abbrev pub linking_of : Sizes → Literals → List ℤ
-linking_of sizes literals = closed sizes (linking (gadgets sizes.width 0 (literals_of literals)))
+abbrev pub linking_of : Sizes → (rows : List Literal) → List ℤ
+linking_of sizes rows = closed sizes (linking (gadgets sizes.width 0 (literals_of rows)))
 
 -- clause n, counted from 0, closed by 0
-abbrev pub clause_of : (w bases booleans : ℕ) → Literals → (n : ℕ) → List ℤ
-clause_of w bases booleans literals n = get_or (clauses_of w bases booleans (literals_of literals)) n [] ++ (pos 0 ∷ [])
+abbrev pub clause_of : (w bases booleans : ℕ) → (rows : List Literal) → (n : ℕ) → List ℤ
+clause_of w bases booleans rows n = get_or (clauses_of w bases booleans (literals_of rows)) n [] ++ (pos 0 ∷ [])

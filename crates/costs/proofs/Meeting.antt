@@ -8,17 +8,29 @@ use mathlib.Core.Logic.{◌⊎◌, inl, inr}
 use mathlib.Core.Bool.{Bool, cond}
 use mathlib.Core.List.{List}
 use borrow.Author.Tests.{eq-eqb, ne_eqb}
-use lib.Bits.{bit_or, bit_xor, or_lt, xor_lt}
+use lib.Bits.{bit_or, bit_xor, or_lt, xor_lt, xor_self}
 use lib.Count.{count_trailing_zeros}
 use lib.ListN.{length, get_or, set, length-set}
 use lib.Pow.{pow_pos}
 use Rattle.reach.specs.Reached.{bit}
 use Rattle.reach.specs.Steps.{has, marks}
-use Rattle.costs.specs.Levels.{Route, along, over, LevelPut, AheadOf}
+use Rattle.costs.specs.Levels.{Route, along, over, LevelPut, AheadOf, NextMet}
+use Rattle.costs.specs.declared.Next.{Next}
 use Rattle.reach.proofs.Bits.{bit_cases, bit_zero, bit_below, or_left, or_right, or_either, pow_other, xor_bit, xor_has, xor_some, trailing_bit}
 use Rattle.reach.proofs.Spreading.{marks_more, marks_within, marks_most}
 use Rattle.reach.proofs.Values.{put_at, put_else}
 use Rattle.costs.proofs.Settling.{Within, Waits, Searching}
+
+-- nothing is new where the level is empty, and only there
+pub none_new : {met seen : ℕ} → bit_xor met seen ≡ 0 → met ≡ seen
+none_new {met} {seen} empty = go (ℕ_discrete seen met)
+  where
+    go : Dec (seen ≡ met) → met ≡ seen
+    go (yes same) = sym same
+    go (no other) = absurd (omega (arith, xor_some met seen other))
+
+pub some_new : {met seen : ℕ} → (bit_xor met seen ≡ 0 → ⊥) → met ≡ seen → ⊥
+some_new {seen = seen} some same = some (ap (λ (m : ℕ). bit_xor m seen) same ∙ xor_self seen)
 
 -- a word that has all of another, and something new, has more marks
 one_more : (seen met : ℕ) → met < 2 ^ 48 → seen < 2 ^ 48 → ((b : ℕ) → bit seen b ≡ 1 → bit met b ≡ 1) → (seen ≡ met → ⊥) → marks seen < marks met
@@ -33,7 +45,7 @@ one_more seen met met_small small keeps new =
     within a b has_b (inl old) = keeps a old
     within a b has_b (inr new) = subst (λ (c : ℕ). bit met c ≡ 1) (sym (pow_other b a new)) has_b
 
-module _ (cheap writes : List ℕ) (origin : ℕ) (row waiting distances : List ℕ) (seen ahead distance put taken : ℕ)
+module _ {cheap writes : List ℕ} {origin : ℕ} {row waiting distances : List ℕ} {seen ahead distance put taken : ℕ}
     (known : Searching cheap writes origin row waiting distances seen ahead distance put taken) where
   -- What is met next, and at which distance: all that is ahead, and what waits for that distance
   pub record Meeting (next met after : ℕ) : Type 0 where
@@ -51,7 +63,7 @@ module _ (cheap writes : List ℕ) (origin : ℕ) (row waiting distances : List 
     pub small : met < 2 ^ 48
 
   -- the next distance: one step on, or where nothing is ahead that is new, the first that waits
-  pub record Next (next : ℕ) : Type 0 where
+  pub record Least (next : ℕ) : Type 0 where
     pub further : distance < next
     pub first : next ≤ get_or distances taken 0
     pub nearest : (b : ℕ) → bit ahead b ≡ 1 → bit seen b ≡ 0 → next ≡ distance + 1
@@ -61,10 +73,10 @@ module _ (cheap writes : List ℕ) (origin : ℕ) (row waiting distances : List 
     waits_later : distance < get_or distances taken 0
     waits_later = known.later taken (omega arith) some
 
-    pub next_on : (bit_or seen ahead ≡ seen → ⊥) → Next (distance + 1)
+    next_on : (bit_or seen ahead ≡ seen → ⊥) → Least (distance + 1)
     next_on new = record { further = omega arith; first = omega (arith, waits_later); nearest = λ b is off. refl; idle = λ none. absurd (new none) }
 
-    pub next_waits : bit_or seen ahead ≡ seen → Next (get_or distances taken 0)
+    next_waits : bit_or seen ahead ≡ seen → Least (get_or distances taken 0)
     next_waits none =
         record {
           further = waits_later;
@@ -73,7 +85,7 @@ module _ (cheap writes : List ℕ) (origin : ℕ) (row waiting distances : List 
           idle = λ same. refl;
         }
 
-    module _ (next : ℕ) (chosen : Next next) where
+    module _ {next : ℕ} (chosen : Least next) where
       near_small : bit_or seen ahead < 2 ^ 48
       near_small = or_lt 48 seen ahead known.seen_small known.ahead_small
 
@@ -82,7 +94,7 @@ module _ (cheap writes : List ℕ) (origin : ℕ) (row waiting distances : List 
       near_fresh b off (inr is) = subst (λ (d : ℕ). Route cheap writes origin d b) (sym (chosen.nearest b is off)) (known.ahead_way b is)
 
       -- what waits is further off
-      pub meet_ahead : (next ≡ get_or distances taken 0 → ⊥) → Meeting next (bit_or seen ahead) taken
+      meet_ahead : (next ≡ get_or distances taken 0 → ⊥) → Meeting next (bit_or seen ahead) taken
       meet_ahead different =
           record {
             further = chosen.further;
@@ -104,7 +116,7 @@ module _ (cheap writes : List ℕ) (origin : ℕ) (row waiting distances : List 
           later k past below (no other) = omega (arith, chosen.first, known.rising taken k (omega (arith, past, other)) below)
 
       -- the first that waits has that distance
-      pub meet_both : next ≡ get_or distances taken 0 → Meeting next (bit_or (bit_or seen ahead) (get_or waiting taken 0)) (taken + 1)
+      meet_both : next ≡ get_or distances taken 0 → Meeting next (bit_or (bit_or seen ahead) (get_or waiting taken 0)) (taken + 1)
       meet_both same =
           record {
             further = chosen.further;
@@ -131,7 +143,22 @@ module _ (cheap writes : List ℕ) (origin : ℕ) (row waiting distances : List 
               inl (or_right (bit_or seen ahead) (get_or waiting taken 0) b (subst (λ (i : ℕ). bit (get_or waiting i 0) b ≡ 1) at is), ap (λ (i : ℕ). get_or distances i 0) at ∙ sym same)
           joins k b past is (no other) = inr (omega (arith, past, other))
 
-  module _ (next met after : ℕ) (meets : Meeting next met after) where
+    -- what the code meets
+    pub meeting : {next : Next} → NextMet waiting distances seen ahead distance taken next → Meeting next.distance next.seen next.taken
+    meeting {next} is = go (ℕ_discrete next.distance (get_or distances taken 0))
+      where
+        least : Least next.distance
+        least = by (ℕ_discrete (bit_or seen ahead) seen)
+          where
+            by : Dec (bit_or seen ahead ≡ seen) → Least next.distance
+            by (yes none) = rw (is.idle none) (next_waits none)
+            by (no new) = rw (is.onward new) (next_on new)
+
+        go : Dec (next.distance ≡ get_or distances taken 0) → Meeting next.distance next.seen next.taken
+        go (yes same) = rw ((is.joined same).0, (is.joined same).1) (meet_both least same)
+        go (no different) = rw ((is.apart different).0, (is.apart different).1) (meet_ahead least different)
+
+  module _ {next met after : ℕ} (meets : Meeting next met after) where
     abbrev level : ℕ
     level = bit_xor met seen
 
@@ -244,14 +271,18 @@ module _ (cheap writes : List ℕ) (origin : ℕ) (row waiting distances : List 
         old : (b : ℕ) → bit met b ≡ 1 → bit seen b ≡ 1
         old b is = subst (λ (m : ℕ). bit m b ≡ 1) none is
 
+    -- the level is a word of array terms
+    pub level_small : level < 2 ^ 48
+    level_small = xor_lt 48 met seen meets.small known.seen_small
+
     -- a place is left for a level with something new
     pub some_room : (met ≡ seen → ⊥) → put < 48
     some_room new = omega (arith, known.many, one_more seen met meets.small known.seen_small meets.keeps (λ same. new (sym same)), marks_most met)
 
     -- the new level is put
-    pub met_level : (met ≡ seen → ⊥) → (row' : List ℕ) (ahead' beyond : ℕ) → length row' ≡ 48 → LevelPut level (next % 128) row row' → AheadOf cheap level ahead' → AheadOf writes level beyond
+    pub met_level : (met ≡ seen → ⊥) → {row' : List ℕ} {ahead' beyond : ℕ} → length row' ≡ 48 → LevelPut level (next % 128) row row' → AheadOf cheap level ahead' → AheadOf writes level beyond
         → Searching cheap writes origin row' (set waiting put beyond) (set distances put (next + 49)) met ahead' next (put + 1) after
-    met_level new row' ahead' beyond long level_put Near-of far_of =
+    met_level new {row'} {ahead'} {beyond} long level_put Near-of far_of =
         record {
           settled = settled';
           begins = begins';

@@ -13,7 +13,7 @@ use Rattle.reach.specs.Reached.{bit}
 use Rattle.reach.specs.Steps.{marks}
 use Rattle.costs.specs.Levels.{Route, home, along, over, LevelPut, AheadOf, DistancesFrom}
 use Rattle.reach.proofs.Bits.{bit_cases, bit_zero, pow_bit, pow_other}
-use Rattle.reach.proofs.Spreading.{marks_more}
+use Rattle.reach.proofs.Spreading.{marks_more, marks_most}
 use Rattle.reach.proofs.Values.{put_at}
 
 -- settled, and at no more than a distance
@@ -48,38 +48,41 @@ pub record Searching (cheap writes : List ℕ) (origin : ℕ) (row waiting dista
   pub narrow : (k : ℕ) → k < put → get_or waiting k 0 < 2 ^ 48
   pub rooms : (length row ≡ 48) × (length waiting ≡ 48) × (length distances ≡ 48)
 
-module _ (cheap writes : List ℕ) (origin : ℕ) where
+module _ {cheap writes : List ℕ} {origin : ℕ} where
   -- at the origin
-  pub search_begun : origin < 48 → (waiting distances : List ℕ) → length waiting ≡ 48 → length distances ≡ 48 → (row : List ℕ) → length row ≡ 48
-      → (ahead beyond : ℕ) → LevelPut (2 ^ origin) 0 (replicate 48 255) row → AheadOf cheap (2 ^ origin) ahead → AheadOf writes (2 ^ origin) beyond
-      → Searching cheap writes origin row (set waiting 0 beyond) (set distances 0 49) (2 ^ origin) ahead 0 1 0
-  search_begun inside waiting distances waiting_long distances_long row long ahead beyond put near far =
+  pub search_begun : {seen : ℕ} → seen ≡ 2 ^ origin → origin < 48 → (waiting distances : List ℕ) {row : List ℕ} → length waiting ≡ 48 → length distances ≡ 48 → length row ≡ 48
+      → {ahead beyond : ℕ} → LevelPut seen 0 (replicate 48 255) row → AheadOf cheap seen ahead → AheadOf writes seen beyond
+      → Searching cheap writes origin row (set waiting 0 beyond) (set distances 0 49) seen ahead 0 1 0
+  search_begun {seen} is inside waiting distances {row} waiting_long distances_long long {ahead} {beyond} put near far =
       record {
         settled = λ b. 0;
-        begins = (pow_bit origin, omega arith);
-        way = λ b is. at_home b (pow_other origin b is);
+        begins = (rw is (pow_bit origin), omega arith);
+        way = λ b there. at_home b (only b there);
         most = λ b is. omega arith;
         counted = λ b is. put.put b is;
         uncounted = λ b b_in off. put.kept b off ∙ get_or-replicate 48 b 255 0 b_in;
         near = λ a b is next. inr (near.complete a b is next, refl);
         far = λ a b is next. inr (0, omega arith, omega arith, rw (first_waits 0 refl) (far.complete a b is next), first_at 0 refl);
-        ahead_way = λ b is. let found = near.sound b is in along (at_home found.0 (pow_other origin found.0 found.1)) found.2;
+        ahead_way = λ b is. let found = near.sound b is in along (at_home found.0 (only found.0 found.1)) found.2;
         waiting_way = λ k b past below is.
             let found = far.sound b (rw (first_waits k (omega arith)) at is) in
-            rw (first_at k (omega arith)) (over (at_home found.0 (pow_other origin found.0 found.1)) found.2);
+            rw (first_at k (omega arith)) (over (at_home found.0 (only found.0 found.1)) found.2);
         later = λ k past below. omega (arith, first_at k (omega arith));
         rising = λ k l below inside_l. absurd (omega arith);
         latest = λ k below. omega (arith, first_at k (omega arith));
         left = inr (omega arith);
         order = omega arith;
-        many = omega (arith, subst (λ (m : ℕ). marks m ≡ suc (marks 0)) (or_zero_l (2 ^ origin)) (marks_more 0 origin inside (bit_zero origin)));
+        many = omega (arith, subst (λ (m : ℕ). marks m ≡ suc (marks 0)) (or_zero_l (2 ^ origin) ∙ sym is) (marks_more 0 origin inside (bit_zero origin)));
         bounded = omega arith;
-        seen_small = pow-lt inside;
+        seen_small = rw is (pow-lt inside);
         ahead_small = near.small;
         narrow = λ k below. rw (first_waits k (omega arith)) far.small;
         rooms = (long, length-set waiting 0 beyond ∙ waiting_long, length-set distances 0 49 ∙ distances_long);
       }
     where
+      only : (b : ℕ) → bit seen b ≡ 1 → b ≡ origin
+      only b there = pow_other origin b (rw is at there)
+
       at_home : (b : ℕ) → b ≡ origin → Route cheap writes origin 0 b
       at_home b same = subst (λ (c : ℕ). Route cheap writes origin 0 c) (sym same) home
 
@@ -89,7 +92,14 @@ module _ (cheap writes : List ℕ) (origin : ℕ) where
       first_at : (k : ℕ) → k ≡ 0 → get_or (set distances 0 49) k 0 ≡ 49
       first_at k same = put_at distances 0 49 k (omega arith) same
 
-  module _ (row waiting distances : List ℕ) (seen ahead distance put taken : ℕ) (known : Searching cheap writes origin row waiting distances seen ahead distance put taken) where
+  module _ {row waiting distances : List ℕ} {seen ahead distance put taken : ℕ} (known : Searching cheap writes origin row waiting distances seen ahead distance put taken) where
+    -- no more than 48 wait, and none is far off
+    pub few_wait : put ≤ 48
+    few_wait = omega (arith, known.many, marks_most seen)
+
+    pub none_far : distance ≤ 4704
+    none_far = omega (arith, known.bounded, known.order, few_wait)
+
     -- where nothing waits, all that a way leads to is settled, and no further off than the way is long
     pub search_ended : taken ≡ put → DistancesFrom cheap writes origin row
     search_ended ended =

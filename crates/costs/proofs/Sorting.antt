@@ -1,85 +1,72 @@
 -- Writes and other edges, each in their words: what one row more puts, and where.
 -- Assumes nothing.
-use Prim.Native.Nat.{ℕ, ◌+◌, ◌<◌}
-use mathlib.Core.Path.{◌≡◌, refl, sym, ap, ◌∙◌, subst}
-use mathlib.Core.Bool.{Bool, true, false, cond, not}
-use mathlib.Core.List.{List, [], ◌∷◌, ◌++◌}
-use borrow.Author.Tests.{eq-eqb, ne_eqb}
-use lib.Dec.{eqb}
-use lib.ListN.{length, get_or, take}
+use Rattle.std.proofs.Common.{◌≡◌, ℕ, ◌+◌, ◌<◌, ◌≤◌, Bool, true, false, not, List, [], ◌∷◌, ◌++◌, length, get_or, take, sym, ap, ◌∙◌, subst, arith}
+use lib.Seq.{get_or-take, length-take-le}
 use Rattle.paper.specs.Lists.{keep, concat_map}
-use Rattle.paper.specs.Edges.{Guard, Edge}
+use Rattle.paper.specs.Edges.{Edge}
 use Rattle.paper.specs.Reach.{is_write}
-use Rattle.terms.specs.Tables.{edges_in}
-use Rattle.terms.specs.declared.graph.Way.{Way}
 use Rattle.meaning.proofs.Lists.{keep_append}
-use Rattle.terms.specs.Graph.{open_in, guard_of, way_edges, Each}
-use Rattle.reach.specs.Steps.{Adjacent, EndsBelow, with_edge}
+use Rattle.terms.specs.Tables.{edges_in}
+use Rattle.terms.specs.Graph.{open_in, Each}
+use Rattle.reach.specs.Steps.{Adjacent, EndsBelow, Lent, with_edge}
+use Rattle.reach.proofs.Words.{none_more, one_more, rows_more, open_each}
 use Rattle.costs.specs.Levels.{Sorted}
-use Rattle.reach.proofs.Words.{none_more, one_more, rows_more, way_none, way_edge, way_ends}
 
--- a way's edge is a write by its tag
-abbrev edge_of : Way → Edge
-edge_of way = record { left = way.left; right = way.right; guard = guard_of way.tag way.number }
+module _ {rows : List ℕ} {count : ℕ} (lent : Lent rows count 48) {k : ℕ} (inside : k < length (take count rows)) where
+  few : count ≤ length rows
+  few = omega (arith, lent.few, lent.long)
 
-tag_write : (way : Way) (is : Bool) → eqb way.tag 0x22 ≡ is → is_write (edge_of way).guard ≡ is
-tag_write way true same = rw same
-tag_write way false same = rw same (other (eqb way.tag 0x23))
-  where
-    other : (b : Bool) → is_write (cond b (Guard.is_true way.number) (Guard.is_false way.number)) ≡ false
-    other true = refl
-    other false = refl
+  below : k < count
+  below = omega (arith, length-take-le count rows few, inside)
 
-module _ (values truths : List ℕ) (x : ℕ) (rows : List ℕ) (k : ℕ) (inside : k < length rows) (way : Way) (is : way_edges way ≡ open_in values truths x (get_or rows k 0)) where
+  row_is : get_or (take count rows) k 0 ≡ get_or rows k 0
+  row_is = get_or-take count rows k 0 below
+
+module _ (values truths : List ℕ) (x : ℕ) {rows : List ℕ} {count : ℕ} (lent : Lent rows count 48) {k : ℕ} (inside : k < length (take count rows)) where
+  abbrev edges_here : List Edge
+  edges_here = open_in values truths x (get_or (take count rows) k 0)
+
+  -- the ends of an edge that is open are array terms
+  pub open_ends : {edge : Edge} → edge ∷ [] ≡ edges_here → (edge.left < 48) × (edge.right < 48)
+  open_ends is =
+      let ends : Each (EndsBelow 48) (edges_in (get_or (take count rows) k 0)) = rw (row_is lent inside) (lent.ends k (below lent inside)) in
+      (subst (Each (EndsBelow 48)) (sym is) (open_each (EndsBelow 48) values truths x (get_or (take count rows) k 0) ends)).0
+
   abbrev before : List Edge
   before = concat_map (open_in values truths x) (take k rows)
 
   abbrev upto : List Edge
   upto = concat_map (open_in values truths x) (take (k + 1) rows)
 
-  -- of the edges that pass a test: those before, and the row's where it passes
-  module _ (test : Edge → Bool) (words : List ℕ) (known : Adjacent (keep test before) words) where
-    more : (new : List Edge) → way_edges way ≡ new → {after : List ℕ} → Adjacent (keep test before ++ keep test new) after → Adjacent (keep test upto) after
-    more new same {after} adjacent =
-        subst (λ (es : List Edge). Adjacent es after)
-        (sym (keep_append test before new) ∙ ap (keep test) (ap (λ (last : List Edge). before ++ last) (sym same ∙ is) ∙ sym (rows_more (open_in values truths x) rows k inside)))
+  module _ {cheap writes : List ℕ} (known : Sorted before cheap writes) where
+    -- of the edges that pass a test: those before, and of the row's those that pass
+    more : (test : Edge → Bool) (new : List Edge) → new ≡ edges_here → {after : List ℕ} → Adjacent (keep test before ++ keep test new) after → Adjacent (keep test upto) after
+    more test new is {after} adjacent =
+        let long : k < length rows = omega (arith, below lent inside, few lent inside) in
+        subst (λ (edges : List Edge). Adjacent edges after)
+        (sym (keep_append test before new)
+        ∙ ap (λ (last : List Edge). keep test (before ++ last)) (is ∙ ap (open_in values truths x) (row_is lent inside))
+        ∙ ap (keep test) (sym (rows_more (open_in values truths x) rows k long)))
         adjacent
 
-    none_by : (new : List Edge) → way_edges way ≡ new → keep test new ≡ [] → Adjacent (keep test upto) words
-    none_by new same empty = more new same (subst (λ (last : List Edge). Adjacent (keep test before ++ last) words) (sym empty) (none_more known))
+    abbrev others : Edge → Bool
+    others edge = not (is_write edge.guard)
 
-    kept_none : way.open ≡ false → Adjacent (keep test upto) words
-    kept_none shut = none_by [] (way_none way shut) refl
+    abbrev writing : Edge → Bool
+    writing edge = is_write edge.guard
 
-    module _ (lies_open : way.open ≡ true) where
-      kept_out : test (edge_of way) ≡ false → Adjacent (keep test upto) words
-      kept_out fails = none_by (edge_of way ∷ []) (way_edge way lies_open) (rw fails)
+    -- a row that is open to no edge
+    pub sorted_none : [] ≡ edges_here → Sorted upto cheap writes
+    sorted_none is = (more others [] is (none_more known.0), more writing [] is (none_more known.1))
 
-      kept_in : test (edge_of way) ≡ true → (way.left < 48) × (way.right < 48) → Adjacent (keep test upto) (with_edge way.left way.right words)
-      kept_in passes ends =
-          more (edge_of way ∷ []) (way_edge way lies_open)
-          (subst (λ (last : List Edge). Adjacent (keep test before ++ last) (with_edge way.left way.right words)) (sym (rw passes)) (one_more known (edge_of way) ends.0 ends.1))
+    module _ {edge : Edge} (is : edge ∷ [] ≡ edges_here) where
+      kept : {edges : List Edge} {words : List ℕ} → Adjacent edges words → Adjacent (edges ++ edge ∷ []) (with_edge edge.left edge.right words)
+      kept adjacent = one_more adjacent edge (open_ends is).0 (open_ends is).1
 
-  -- one turn: the row's edge is put into the words of its kind, or there is none
-  pub sorted : (cheap writes : List ℕ) → Sorted before cheap writes → Each (EndsBelow 48) (edges_in (get_or rows k 0))
-      → (way.open ≡ false → Sorted upto cheap writes)
-      × (way.open ≡ true → way.tag ≡ 0x22 → Sorted upto cheap (with_edge way.left way.right writes))
-      × (way.open ≡ true → (way.tag ≡ 0x22 → ⊥) → Sorted upto (with_edge way.left way.right cheap) writes)
-  sorted cheap writes known ends = (
-    (λ shut. (kept_none other cheap known.0 shut, kept_none write writes known.1 shut)),
-    (λ lies_open tagged.
-        let is = tag_write way true (eq-eqb way.tag 0x22 tagged) in
-        (kept_out other cheap known.0 lies_open (ap not is), kept_in write writes known.1 lies_open is (inside_ends lies_open))),
-    (λ lies_open untagged.
-        let is = tag_write way false (ne_eqb way.tag 0x22 untagged) in
-        (kept_in other cheap known.0 lies_open (ap not is) (inside_ends lies_open), kept_out write writes known.1 lies_open is)),
-  )
-    where
-      write : Edge → Bool
-      write edge = is_write edge.guard
+      -- one that is open to a write
+      pub sorted_write : is_write edge.guard ≡ true → Sorted upto cheap (with_edge edge.left edge.right writes)
+      sorted_write write = (more others (edge ∷ []) is (rw write (none_more known.0)), more writing (edge ∷ []) is (rw write (kept known.1)))
 
-      other : Edge → Bool
-      other edge = not (is_write edge.guard)
-
-      inside_ends : way.open ≡ true → (way.left < 48) × (way.right < 48)
-      inside_ends lies_open = way_ends values truths x (get_or rows k 0) way is lies_open ends
+      -- and one that is open to any other edge
+      pub sorted_other : is_write edge.guard ≡ false → Sorted upto (with_edge edge.left edge.right cheap) writes
+      sorted_other other = (more others (edge ∷ []) is (rw other (kept known.0)), more writing (edge ∷ []) is (rw other (none_more known.1)))

@@ -1,6 +1,8 @@
 -- The tests of a field against the tables: the paper's, with the counts and the reads that the tables hold.
 -- Assumes nothing.
-use Rattle.std.specs.Prelude.{ℕ, ◌/◌, ◌%◌, Bool, false, not, ◌&&◌, List, [], ◌∷◌, eqb, ltb, get_or}
+use Rattle.std.specs.Prelude.{ℕ, ◌/◌, ◌%◌, Bool, false, not, ◌&&◌, List, [], ◌∷◌, eqb, ltb, get_or, Result, Ok, Err}
+use Rattle.paper.specs.declared.Reason.{Reason}
+use Rattle.paper.specs.Reasons.{number_of}
 use Rattle.paper.specs.Lists.{any, ◌refuses◌, first_met}
 use Rattle.paper.specs.Fields.{Series, base, boolean, array, parts}
 use Rattle.paper.specs.Load.{each_part, as_truth, is_full, names_ungiven}
@@ -37,6 +39,11 @@ of_equality_field test (Fixed value) = false
 
 abbrev pub truths_of : Field → List ℕ
 truths_of field = each_part as_truth (parts (kind_of_field field)) (numbers_of field)
+
+-- a field's fault by its number, and 0 where it has none
+abbrev pub fault_number : {A : Type 0} → Result A Reason → ℕ
+fault_number (Ok accepted) = 0
+fault_number (Err reason) = number_of reason
 
 -- the first fault of a field, by the tables
 abbrev pub fault_by : (reads values : List ℕ) → Counts → Field → ℕ

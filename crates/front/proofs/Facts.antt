@@ -1,55 +1,53 @@
 -- What a ruling on the tables of an accepted query says: the paper's pairs and conflicting pair, and that the literals between its sources can be asked for.
 -- Assumes nothing.
-use Prim.Native.Nat.{ℕ, zero, suc, ◌<◌}
+use Prim.Native.Nat.{ℕ, ◌<◌}
 use native.Mathlib.Omega.{arith}
 use mathlib.Core.Path.{◌≡◌, refl, sym, ap, ◌∙◌, subst}
-use mathlib.Core.Logic.{◌≢◌}
 use mathlib.Core.Bool.{Bool, true, false, cond, false≢true}
 use mathlib.Core.List.Memᴰ
 use mathlib.Core.List.{List, [], ◌∷◌}
 use mathlib.Core.Option.{Option, none, some, none-ne-some}
 use borrow.Author.Tests.{eqb-true}
 use lib.Dec.{eqb}
-use lib.ListN.{length, get_or}
+use lib.ListN.{get_or}
 use Rattle.paper.specs.Lists.{◌∈◌, map_option, or_else, find, range}
 use Rattle.paper.specs.Conflict.{Pair}
+use Rattle.std.specs.Prelude.{Result, Ok, Err}
+use Rattle.std.proofs.lemmas.Result.{IfOk-at_ok}
+use Rattle.paper.specs.declared.Refusal.{Refusal}
+use Rattle.paper.specs.Reasons.{number_of}
+use Rattle.terms.specs.Graph.{Graphed}
 use Rattle.paper.specs.Load.{load}
 use Rattle.paper.specs.Load as Load
 use Rattle.meaning.proofs.Lists.{find_in, range_in}
 use Rattle.meaning.proofs.Whole.{pair_of, pairs_of, lemma_of}
-use Rattle.terms.specs.Tables.{Tables}
+use Rattle.terms.specs.declared.Tables.{Tables}
 use Rattle.terms.specs.Loads.{loaded_as}
 use Rattle.reach.specs.Reached.{Edges, Sources, opens_in, sources_in, reached_in, bit, origin_at, value_at, assigned_at, RowOf}
 use Rattle.reach.proofs.Words.{lent_ends}
 use Rattle.reach.proofs.Rows.{reached_back}
 use Rattle.reach.proofs.Paper.{within, pairs_paper}
 use Rattle.lemma.specs.Pairs.{Numbers, clash_of, clash_in, pair_among, pair_in, found_of}
-use Rattle.lemma.specs.Rows.{listed, literals_of}
+use Rattle.lemma.specs.declared.rows.Literal.{Literal}
+use Rattle.lemma.specs.Rows.{literals_of}
 use Rattle.lemma.specs.Between.{Ready}
 use Rattle.lemma.proofs.Taken.{pair_at, pair_paper}
 use Rattle.lemma.proofs.Walked.{lemma_paper}
 use Rattle.front.specs.declared.Ruling.{Ruling}
-use Rattle.front.specs.declared.Front.{Front}
-use Rattle.front.specs.Fronted.{Fronted, Judged, Paired, Made}
+use Rattle.front.specs.Fronted.{Ruled, Fronted, Judged, Paired, Made}
 
 -- what the front says of the paper's loading
-module _ {bytes : List ℕ} {t : Tables} {front : Front} (known : Fronted bytes t front) where
-  pub refused : front.refusal ≢ 0 → load 32 bytes ≡ Load.refused front.refusal front.offset
-  refused Some-number = go front.refusal Some-number known.loaded
-    where
-      go : (number : ℕ) → number ≢ 0 → loaded_as number front.offset known.query ≡ load 32 bytes → load 32 bytes ≡ Load.refused number front.offset
-      go zero Some-number same = absurd (Some-number refl)
-      go (suc number) Some-number same = sym same
+module _ {bytes : List ℕ} {t : Tables} {result : Result Ruling Refusal} (known : Fronted bytes t result) where
+  same : {other : Result Ruling Refusal} → result ≡ other → load 32 bytes ≡ loaded_as other known.query
+  same is = sym known.loaded ∙ ap (λ (r : Result Ruling Refusal). loaded_as r known.query) is
 
-  pub judged : front.refusal ≡ 0 → Judged bytes t front.ruling
-  judged accepted =
-      record {
-        query = known.query;
-        loaded = sym known.loaded ∙ ap (λ (number : ℕ). loaded_as number front.offset known.query) accepted;
-        holds = known.holds;
-        graph = known.graph accepted;
-        ruled = known.ruled accepted;
-      }
+  pub refused : {refusal : Refusal} → result ≡ Err refusal → load 32 bytes ≡ Load.refused (number_of refusal.reason) refusal.offset
+  refused is = same is
+
+  pub judged : {ruling : Ruling} → result ≡ Ok ruling → Judged bytes t ruling
+  judged is =
+      let accepted = IfOk-at_ok (λ ruling. Graphed known.query t × Ruled t ruling) is known.accepted in
+      record { query = known.query; loaded = same is; holds = known.holds; graph = accepted.0; ruled = accepted.1 }
 
 -- what a pair of a list is
 among_facts : (clash : ℕ → ℕ → Bool) (is : List ℕ) {numbers : Numbers} → pair_among clash is ≡ some numbers
@@ -119,9 +117,8 @@ module _ {bytes : List ℕ} {t : Tables} {ruling : Ruling} (known : Judged bytes
     facts : (numbers.first < t.counts.sources) × (numbers.later < t.counts.sources) × (clash_in (sources_in t) known.ruled.words numbers.first numbers.later ≡ true)
     facts = pair_facts (sources_in t) known.ruled.words numbers (sym known.ruled.found ∙ found)
 
-    ready : (literals : List ℕ) → length literals ≡ 49
-        → Ready t.values t.truths t.edges t.counts.edges t.counts.arrays (get_or t.sources numbers.first 0) (get_or t.sources numbers.later 0) literals
-    ready literals room =
+    ready : Ready t (get_or t.sources numbers.first 0) (get_or t.sources numbers.later 0)
+    ready =
         let inside = within known.holds known.graph in
         let i = numbers.first in
         let j = numbers.later in
@@ -133,14 +130,13 @@ module _ {bytes : List ℕ} {t : Tables} {ruling : Ruling} (known : Judged bytes
           origin = inside.origin i facts.0;
           later_origin = inside.origin j facts.1;
           reached = reached_back (opens_in t) t.counts.arrays (value_at s i) (lent_ends inside.lent t.values t.truths) (origin_at s i) (origin_at s j) (inside.origin i facts.0) there;
-          room = room;
         }
 
     -- so that the literals between its sources can be asked for
-    pub paired : (literals : List ℕ) → length literals ≡ 49 → Paired t.values t.truths t.sources t.edges t.counts numbers.first numbers.later literals
-    paired literals room = record { first_in = omega (arith, facts.0, known.graph.few_sources); later_in = omega (arith, facts.1, known.graph.few_sources); ready = ready literals room }
+    pub paired : Paired t numbers.first numbers.later
+    paired = record { first_in = omega (arith, facts.0, known.graph.few_sources); later_in = omega (arith, facts.1, known.graph.few_sources); ready = ready }
 
     -- and are the paper's lemma
-    pub lemma_is : (literals : List ℕ) (count : ℕ) → Made t numbers literals count → literals_of (listed literals count) ≡ lemma_of known.query pair
+    pub lemma_is : (rows : List Literal) → Made t numbers rows → literals_of rows ≡ lemma_of known.query pair
     unfolding pair
-    lemma_is literals count made = lemma_paper known.holds known.graph numbers facts.0 facts.1 literals count made
+    lemma_is rows made = lemma_paper known.holds known.graph numbers facts.0 facts.1 rows made

@@ -1,16 +1,18 @@
 -- What is lent to the marking and to the search for a pair.
 -- Assumes nothing.
-use Prim.Native.Nat.{ℕ, ◌*◌, ◌<◌, ◌≤◌}
+use Prim.Native.Nat.{ℕ, ◌<◌, ◌≤◌}
 use native.Mathlib.Omega.{arith}
-use mathlib.Core.Path.{◌≡◌, sym, ◌∙◌, subst}
+use mathlib.Core.Path.{◌≡◌, sym, ap, ◌∙◌, subst}
 use mathlib.Core.Bool.{Bool, false}
 use mathlib.Core.List.{List}
 use lib.ListN.{length, get_or, replicate, length-replicate, get_or-replicate}
-use Rattle.reach.specs.Reached.{Edges, open_to, rows_in, Sources, origin_at, value_at, Ends, RowOf, Marked}
+use Rattle.terms.specs.declared.Tables.{Tables}
+use Rattle.reach.specs.declared.marks.Mark.{Mark}
+use Rattle.reach.specs.Reached.{Edges, opens_in, sources_in, rows_in, links_in, clear_in, Sources, origin_at, value_at, Ends, RowOf, Marked}
 use Rattle.reach.specs.Steps.{Within}
 use Rattle.reach.proofs.Words.{lent_ends}
 use Rattle.reach.proofs.Rows.{same_row}
-use Rattle.reach.proofs.Parts.{rows_length}
+use Rattle.reach.proofs.Marking.{blank, rows_length, links_length, clear_length, link_read, clear_read}
 use Rattle.lemma.specs.Pairs.{Shared, Searchable}
 use Rattle.front.specs.Fronted.{Unruled}
 
@@ -21,34 +23,37 @@ shared e s n rows ends origin right i j i_in j_in same stands a =
     let theirs = subst (λ (x : ℕ). RowOf e n x (origin_at s j) (get_or rows j 0)) same (right j j_in) in
     theirs a ∙ sym (same_row e n (value_at s i) ends (origin_at s i) (origin_at s j) (get_or rows i 0) (origin i i_in) (right i i_in) stands a)
 
-module _ {edges : List ℕ} {ways : ℕ} {s : Sources} {n : ℕ} where
-  -- with rows, links and marks that were just made, of whatever size suffices
-  pub unruled : Within edges ways s n → (size : ℕ) → s.count ≤ size → Unruled edges ways s n (rows_in (replicate (size * 3) 0)) (replicate size 0) (replicate size false)
-  unruled known size room =
-      record {
-        unmarked =
-            record {
-              within = known;
-              rows_long = omega (arith, rows_length (replicate (size * 3) 0), length-replicate {A = ℕ} (size * 3) 0);
-              next_long = omega (arith, length-replicate {A = ℕ} size 0);
-              free = λ k below. get_or-replicate size k 0 0 (omega arith);
-            };
-        clear_long = omega (arith, length-replicate size false);
-        unknown = λ k below. get_or-replicate size k false false (omega arith);
-      }
+-- with marks that were just made, of whatever size suffices
+pub unruled : {t : Tables} → Within t.edges t.counts.edges (sources_in t) t.counts.arrays → (size : ℕ) → t.counts.sources ≤ size
+    → Unruled t (rows_in (replicate size blank)) (links_in (replicate size blank)) (clear_in (replicate size blank))
+unruled known size room =
+    let marks = replicate size blank in
+    let made = length-replicate size blank in
+    record {
+      unmarked =
+          record {
+            within = known;
+            rows_long = omega (arith, rows_length marks, made);
+            next_long = omega (arith, links_length marks, made);
+            free = λ k below. sym (link_read marks k) ∙ ap (λ (mark : Mark). mark.next) (get_or-replicate size k blank blank (omega arith));
+          };
+      clear_long = omega (arith, clear_length marks, made);
+      unknown = λ k below. sym (clear_read marks k) ∙ ap (λ (mark : Mark). mark.clear) (get_or-replicate size k blank blank (omega arith));
+    }
 
-  -- what was marked can be searched
-  pub searchable : (values truths rows words : List ℕ) {next links : List ℕ} {clear : List Bool} {total : ℕ} → Unruled edges ways s n (rows_in rows) next clear
-      → Marked (open_to values truths edges ways) s n (rows_in words) links total → length words ≡ length rows → length links ≡ length next → Searchable s (rows_in words) links clear
-  searchable values truths rows words known marked rows_kept links_kept =
-      let before = known.unmarked in
-      record {
-        sources = before.within.sources;
-        origin = λ k below. omega (arith, before.within.origin k below, before.within.lent.arrays);
-        linked = marked.next;
-        shared = shared (open_to values truths edges ways) s n (rows_in words) (lent_ends before.within.lent values truths) before.within.origin marked.rows;
-        rows_long = omega (arith, before.rows_long, rows_length rows, rows_length words, rows_kept);
-        links_long = omega (arith, before.next_long, links_kept);
-        clear_long = known.clear_long;
-        unknown = known.unknown;
-      }
+-- what was marked can be searched
+pub searchable : {t : Tables} (before after : List Mark) {total : ℕ} → Unruled t (rows_in before) (links_in before) (clear_in before)
+    → Marked (opens_in t) (sources_in t) t.counts.arrays (rows_in after) (links_in after) total → clear_in after ≡ clear_in before → length after ≡ length before
+    → Searchable (sources_in t) (rows_in after) (links_in after) (clear_in after)
+searchable {t} before after lent marked clear_kept kept =
+    let within = lent.unmarked.within in
+    record {
+      sources = within.sources;
+      origin = λ k below. omega (arith, within.origin k below, within.lent.arrays);
+      linked = marked.next;
+      shared = shared (opens_in t) (sources_in t) t.counts.arrays (rows_in after) (lent_ends within.lent t.values t.truths) within.origin marked.rows;
+      rows_long = omega (arith, lent.unmarked.rows_long, rows_length before, rows_length after, kept);
+      links_long = omega (arith, lent.unmarked.next_long, links_length before, links_length after, kept);
+      clear_long = omega (arith, lent.clear_long, clear_length before, clear_length after, kept);
+      unknown = λ k below. ap (λ (clear : List Bool). get_or clear k false) clear_kept ∙ lent.unknown k below;
+    }

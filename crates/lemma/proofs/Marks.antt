@@ -17,7 +17,8 @@ use Rattle.paper.specs.Conflict.{Pair}
 use Rattle.paper.specs.Lemma.{Literal, leads_nearer, path_from, literal_of, hypotheses, left_out, stays, path}
 use Rattle.meaning.proofs.Lists.{find_in, keep_same, keep_in, keep_append, concat_map_in}
 use Rattle.meaning.proofs.Literals.{hypothesis_is}
-use Rattle.terms.specs.Tables.{Tables, fixed_in, edges_in}
+use Rattle.terms.specs.declared.Tables.{Tables}
+use Rattle.terms.specs.Tables.{fixed_in, edges_in}
 use Rattle.faults.specs.Faults.{count_in}
 use Rattle.terms.specs.Holds.{Holds}
 use Rattle.terms.specs.Graph.{Each, GuardWithin, EdgeWithin, Graphed}

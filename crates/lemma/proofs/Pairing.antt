@@ -14,8 +14,9 @@ use borrow.Author.Tests.{eq-eqb, ne_eqb}
 use lib.ListN.{get_or, set}
 use lib.Seq.{get_or-set_other}
 use Rattle.paper.specs.Lists.{range}
-use Rattle.reach.specs.Reached.{Sources, bit, origin_at, value_at, NextOf, assigned_at}
-use Rattle.lemma.specs.Pairs.{Numbers, clash_of, settled_by, clash_in, pair_among, pair_in, Shared}
+use Rattle.reach.specs.declared.marks.Mark.{Mark}
+use Rattle.reach.specs.Reached.{Sources, rows_in, links_in, clear_in, bit, origin_at, value_at, NextOf, assigned_at}
+use Rattle.lemma.specs.Pairs.{Numbers, clash_of, settled_by, clash_in, pair_among, pair_in, Shared, Linked}
 use Rattle.lemma.proofs.Ranges.{range_from, range_end, find_skip}
 
 -- a mark that stands where one was put is the one that was put
@@ -62,6 +63,11 @@ module _ (s : Sources) (rows : List ℕ) where
       → clash_of (assigned_at s i) (assigned_at s t) (get_or rows i 0) (origin_at s t) ≡ answer → clash_in s rows i t ≡ answer
   clash_at i t same is = rw (eq-eqb (value_at s i) (value_at s t) (sym same)) is
 
+  -- by what is read of them
+  pub clash_read : (i t : ℕ) {one other row origin : ℕ} {answer : Bool} → one ≡ assigned_at s i → other ≡ assigned_at s t → row ≡ get_or rows i 0 → origin ≡ origin_at s t
+      → clash_of one other row origin ≡ answer → clash_of (assigned_at s i) (assigned_at s t) (get_or rows i 0) (origin_at s t) ≡ answer
+  clash_read i t one_is other_is row_is origin_is is = rw (← one_is, ← other_is, ← row_is, ← origin_is) is
+
   -- from one source of the index value to the next there is none to conflict with
   free_link : (i t next : ℕ) → value_at s t ≡ value_at s i → NextOf s t next → (j : ℕ) → t < j → j < next → clash_in s rows i j ≡ false
   free_link i t next same link j above below = rw (ne_eqb (value_at s i) (value_at s j) (λ equal. link.between j above below (sym equal ∙ sym same)))
@@ -92,9 +98,6 @@ module _ (s : Sources) (rows : List ℕ) where
   pub cleared_first : (clear : List Bool) → ((k : ℕ) → k < s.count → get_or clear k false ≡ false) → Cleared 0 clear
   cleared_first clear unknown k above inside marked = absurd (false≢true (sym (unknown k inside) ∙ marked))
 
-  pub marked_first : (i : ℕ) (clear : List Bool) → Cleared i clear → Marked i clear
-  marked_first i clear cleared k above inside marked = inl (cleared k (omega arith) inside marked)
-
   -- once source i is free, so are those that are like it
   pub cleared_next : (i : ℕ) (clear : List Bool) → Free i s.count → Marked i clear → Cleared (i + 1) clear
   cleared_next i clear free all k above inside marked = go (all k (omega arith) inside marked)
@@ -124,14 +127,49 @@ module _ (s : Sources) (rows : List ℕ) where
           (put (get_or clear t false) refl (ℕ_discrete _ _) (ℕ_discrete _ _) (mark_put clear t new (ap (λ (n : ℕ). get_or (set clear t new) n false) (sym here) ∙ marked)))
       go (no other) = all k above inside (sym (get_or-set_other clear t k new false other) ∙ marked)
 
-  -- what the search of source i begins with
-  pub begins : (i next : ℕ) (known : Bool) → (known ≡ true → Free i s.count) → NextOf s i next → (t : ℕ) → t ≡ cond known s.count next
-      → (t < s.count → value_at s t ≡ value_at s i) × Free i t
-  begins i next true free link t is = ((λ below. absurd (omega (arith, below, is))), (λ j above below. free refl j above (omega arith)))
-  begins i next false free link t is =
-      subst (λ (n : ℕ). (n < s.count → value_at s n ≡ value_at s i) × Free i n) (sym is) (link.same, free_link i i next refl link)
+-- what is left to search, and what is known of it
+pub record Searching (s : Sources) (marks₀ marks : List Mark) (i : ℕ) : Type 0 where
+  pub rows : rows_in marks ≡ rows_in marks₀
+  pub links : links_in marks ≡ links_in marks₀
+  pub left : pair_in s (rows_in marks₀) ≡ rest_from s (rows_in marks₀) i
+  pub cleared : Cleared s (rows_in marks₀) i (clear_in marks)
 
--- and where: later than source i, and within the table
-pub begins_at : (i next count : ℕ) (known : Bool) → i < count → i < next → next ≤ count → (t : ℕ) → t ≡ cond known count next → (i < t) × (t ≤ count)
-begins_at i next count true inside later within t is = (omega arith, omega arith)
-begins_at i next count false inside later within t is = (omega (arith, is), omega (arith, is))
+-- while source i is tried, with source t next
+pub record Trying (s : Sources) (marks₀ marks : List Mark) (i t : ℕ) : Type 0 where
+  pub rows : rows_in marks ≡ rows_in marks₀
+  pub links : links_in marks ≡ links_in marks₀
+  pub later : i < t
+  pub within : t ≤ s.count
+  pub same : t < s.count → value_at s t ≡ value_at s i
+  pub free : Free s (rows_in marks₀) i t
+  pub marked : Marked s (rows_in marks₀) i (clear_in marks)
+
+-- the first to try, once source i comes to be tried
+pub trying_begun : {s : Sources} {marks₀ marks : List Mark} {i t : ℕ} → i < s.count → Linked s (links_in marks₀) → Searching s marks₀ marks i
+    → t ≡ cond (get_or (clear_in marks) i false) s.count (get_or (links_in marks) i 0) → Trying s marks₀ marks i t
+trying_begun {s} {marks₀} {marks} {i} {t} inside linked searching is = go (get_or (clear_in marks) i false) refl is
+  where
+    link : NextOf s i (get_or (links_in marks) i 0)
+    link = subst (λ (links : List ℕ). NextOf s i (get_or links i 0)) (sym searching.links) (linked i inside)
+
+    go : (known : Bool) → get_or (clear_in marks) i false ≡ known → t ≡ cond known s.count (get_or (links_in marks) i 0) → Trying s marks₀ marks i t
+    go true known at =
+        record {
+          rows = searching.rows;
+          links = searching.links;
+          later = omega (arith, at);
+          within = omega (arith, at);
+          same = λ below. absurd (omega (arith, at));
+          free = λ j above below. searching.cleared i (omega arith) inside known j above (omega (arith, at));
+          marked = λ k above k_in put. inl (searching.cleared k (omega arith) k_in put);
+        }
+    go false known at =
+        record {
+          rows = searching.rows;
+          links = searching.links;
+          later = omega (arith, at, link.later);
+          within = omega (arith, at, link.within);
+          same = λ below. subst (λ (n : ℕ). value_at s n ≡ value_at s i) (sym at) (link.same (omega (arith, at)));
+          free = λ j above below. free_link s (rows_in marks₀) i i _ refl link j above (omega (arith, at));
+          marked = λ k above k_in put. inl (searching.cleared k (omega arith) k_in put);
+        }

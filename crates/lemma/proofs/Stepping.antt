@@ -9,7 +9,7 @@ use mathlib.Core.Bool.{Bool, true, false, cond, false≢true}
 use mathlib.Core.List.Memᴰ
 use mathlib.Core.List.{List, [], ◌∷◌, ◌++◌, map, map-append, append-nil, nil≢cons}
 use mathlib.Core.Option
-use mathlib.Core.Option.{Option, none, some}
+use mathlib.Core.Option.{Option, none, some, some-injective}
 use borrow.Author.Tests.{eqb-true, eq-eqb}
 use lib.Dec.{eqb}
 use lib.ListN.{length, get_or, set, take, length-set, length-append, length-map}
@@ -27,22 +27,22 @@ use Rattle.meaning.proofs.Conflicts.{step_positive}
 use Rattle.reach.specs.Reached.{reached_in}
 use Rattle.lemma.specs.Steps.{EdgeTable, edge_at, open_at, opened, Ends, distance_at, other_end, far_end, step_less, nearer_by, nearer_edge, DistancesOf, Walkable, PathOf}
 use Rattle.lemma.proofs.Ranges.{stored_below}
-use Rattle.lemma.proofs.Ways.{stays_put}
+use Rattle.lemma.proofs.Nearer.{stays_put}
 
 -- the other end is an array term
-pub far_end_in : (left right n a : ℕ) → left < n → right < n → a < n → far_end left right a < n
-far_end_in left right n a left_in right_in_lem inside = first (eqb left a)
+pub far_end_in : (edge : Edge) (n a : ℕ) → edge.left < n → edge.right < n → a < n → far_end edge a < n
+far_end_in edge n a left_in right_in_lem inside = first (eqb edge.left a)
   where
-    second : (here : Bool) → Option.get_or (cond here (some left) none) a < n
+    second : (here : Bool) → Option.get_or (cond here (some edge.left) none) a < n
     second true = left_in
     second false = inside
 
-    first : (here : Bool) → Option.get_or (cond here (some right) (cond (eqb right a) (some left) none)) a < n
+    first : (here : Bool) → Option.get_or (cond here (some edge.right) (cond (eqb edge.right a) (some edge.left) none)) a < n
     first true = right_in_lem
-    first false = second (eqb right a)
+    first false = second (eqb edge.right a)
 
 other_end_in : (e : EdgeTable) (x n a k : ℕ) → Ends e x n → a < n → k < e.count → other_end e x k a < n
-other_end_in e x n a k ends inside numbered = far_end_in (edge_at e x k).left (edge_at e x k).right n a (ends.left k numbered) (ends.right k numbered) inside
+other_end_in e x n a k ends inside numbered = far_end_in (edge_at e x k) n a (ends.left k numbered) (ends.right k numbered) inside
 
 pub ends_most : (e : EdgeTable) (x n : ℕ) → Ends e x n → Ends e x 48
 ends_most e x n ends =
@@ -74,6 +74,15 @@ find_kept {A} {B} f kept test (x ∷ xs) = go (kept x) (find_kept f kept test xs
 both : (one other : Bool) → cond one other false ≡ true → (one ≡ true) × (other ≡ true)
 both true other passes = (refl, passes)
 both false other passes = absurd (false≢true passes)
+
+-- what is chosen with its number, from the number that is chosen
+choice_is : {A : Type 0} (f : ℕ → A) (choice : Option ℕ) {k : ℕ} {one : A} → map_option {B = ℕ × A} (λ i. (i, f i)) choice ≡ some (k, one) → (choice ≡ some k) × (f k ≡ one)
+choice_is f none is = absurd (cc)
+choice_is f (some i) is = let same = some-injective _ _ is in let number : i ≡ _ = ap (λ p. p.0) same in (ap some number, ap f (sym number) ∙ ap (λ p. p.1) same)
+
+no_choice : {A : Type 0} (f : ℕ → A) (choice : Option ℕ) → map_option {B = ℕ × A} (λ i. (i, f i)) choice ≡ none → choice ≡ none
+no_choice f none is = refl
+no_choice f (some i) is = absurd (cc)
 
 -- a walk over no edge stays where it is
 no_step : {among walked : List Edge} {a c : ℕ} → Walk among a walked c → walked ≡ [] → a ≡ c
@@ -229,16 +238,20 @@ module _ (e : EdgeTable) (x n goal : ℕ) where
               goes_on = λ bound. rw (chosen_same, found);
             }
 
-        -- away from the goal some edge leads nearer
-        onward : (a ≡ goal → ⊥) → Onward a (nearer_edge e distances x a goal)
+        -- where the code finds an edge, that is the next
+        onward : {k : ℕ} {edge : Edge} → nearer_edge e distances x a goal ≡ some (k, edge) → (edge_at e x k ≡ edge) × Onward a k
         unfolding nearer_edge
-        onward away = go (find (nearer_by e distances x a goal) (range 0 e.count)) refl
-          where
-            go : (choice : Option ℕ) → find (nearer_by e distances x a goal) (range 0 e.count) ≡ choice → Onward a (Option.get_or choice e.count)
-            go none nothing =
-                let found = path_found step_cost (opened e x) n goal opened_ranged step_positive known in
-                absurd (away (no_step found.0.way (no_way a (chosen_same ∙ ap (map_option (edge_at e x)) nothing) n)))
-            go (some k) found = taken k found
+        onward {k} {edge} found =
+            let choice = choice_is (edge_at e x) (find (nearer_by e distances x a goal) (range 0 e.count)) found in
+            (choice.1, taken k choice.0)
+
+        -- and away from the goal it finds one
+        some_leads : (a ≡ goal → ⊥) → nearer_edge e distances x a goal ≡ none → ⊥
+        unfolding nearer_edge
+        some_leads away nothing =
+            let found = path_found step_cost (opened e x) n goal opened_ranged step_positive known in
+            let none_leads = chosen_same ∙ ap (map_option (edge_at e x)) (no_choice (edge_at e x) (find (nearer_by e distances x a goal) (range 0 e.count)) nothing) in
+            away (no_step found.0.way (no_way a none_leads n))
 
       -- what is walked is no longer than the path
       one_less : (steps : ℕ) (walked : List ℕ) (after : List Edge) → steps ≤ length walked → {path : List Edge} → map (edge_at e x) (take steps walked) ++ after ≡ path → length path < n → steps < n
@@ -251,38 +264,44 @@ module _ (e : EdgeTable) (x n goal : ℕ) where
             length-take-le steps walked fits,
           )
 
-      -- one step further
-      pub walking_on : (from a steps : ℕ) (walked : List ℕ) → n ≤ 48 → (a ≡ goal → ⊥) → Walking from a steps walked
-          → Walking from (other_end e x (nearer_edge e distances x a goal) a) (steps + 1) (set walked steps (nearer_edge e distances x a goal))
-      walking_on from a steps walked few away way =
-          let k = nearer_edge e distances x a goal in
-          let next = onward a way.distance way.known away in
-          let more : n - steps ≡ suc (n - (steps + 1)) = omega (arith, way.short) in
-          let fits : steps < length walked = omega (arith, way.short, way.ways.whole) in
-          let before = map (edge_at e x) (take steps walked) in
-          let after = path_of (n - (steps + 1)) (other_end e x k a) in
-          let one_more : take (steps + 1) (set walked steps k) ≡ take steps walked ++ (k ∷ []) = rw (add-one steps) (take-suc-set walked steps k fits) in
-          let longer : map (edge_at e x) (take (steps + 1) (set walked steps k)) ++ after ≡ before ++ (edge_at e x k ∷ after) = rw (one_more, map-append (edge_at e x)) (append_snoc before (edge_at e x k) after) in
-          let done : map (edge_at e x) (take (steps + 1) (set walked steps k)) ++ after ≡ path_of n from =
-          longer ∙ ap (λ (rest : List Edge). before ++ rest) (sym (next.goes_on (n - (steps + 1))) ∙ ap (λ (m : ℕ). path_of m a) (sym more)) ∙ way.done in
-          record {
-            distance = next.rest;
-            known = next.known;
-            short = one_less (steps + 1) (set walked steps k) after (omega (arith, length-set walked steps k, fits)) done way.brief;
-            brief = way.brief;
-            done = done;
-            ways =
-                record {
-                  whole = length-set walked steps k ∙ way.ways.whole;
-                  numbered = stored_below (λ i. i < e.count) walked steps k 0 fits way.ways.numbered next.numbered;
-                  open_to_lem = stored_below (λ i. open_at e x i ≡ true) walked steps k 0 fits way.ways.open_to_lem next.open_to_lem;
-                };
-          }
+      module _ (from a steps : ℕ) (walked : List ℕ) (way : Walking from a steps walked) where
+        -- away from the goal some edge leads nearer
+        pub never_stuck : (a ≡ goal → ⊥) → nearer_edge e distances x a goal ≡ none → ⊥
+        never_stuck away nothing = some_leads a way.distance way.known away nothing
 
-      -- the edge that is taken stands in the table
-      pub chosen_in : (from a steps : ℕ) (walked : List ℕ) → n ≤ 48 → (a ≡ goal → ⊥) → Walking from a steps walked → nearer_edge e distances x a goal < e.count
-      chosen_in from a steps walked few away way = (onward a way.distance way.known away).numbered
+        module _ (k : ℕ) (edge : Edge) (found : nearer_edge e distances x a goal ≡ some (k, edge)) where
+          -- the edge that is found stands in the table
+          pub chosen_in : k < e.count
+          chosen_in = (onward a way.distance way.known found).1.numbered
 
-      -- and is open
-      pub chosen_open : (from a steps : ℕ) (walked : List ℕ) → n ≤ 48 → (a ≡ goal → ⊥) → Walking from a steps walked → open_at e x (nearer_edge e distances x a goal) ≡ true
-      chosen_open from a steps walked few away way = (onward a way.distance way.known away).open_to_lem
+          -- one step further
+          pub walking_on : Walking from (far_end edge a) (steps + 1) (set walked steps k)
+          walking_on = subst (λ (one : Edge). Walking from (far_end one a) (steps + 1) (set walked steps k)) chosen.0 one_on
+            where
+              chosen : (edge_at e x k ≡ edge) × Onward a k
+              chosen = onward a way.distance way.known found
+
+              one_on : Walking from (other_end e x k a) (steps + 1) (set walked steps k)
+              one_on =
+                  let next = chosen.1 in
+                  let more : n - steps ≡ suc (n - (steps + 1)) = omega (arith, way.short) in
+                  let fits : steps < length walked = omega (arith, way.short, way.ways.whole, ends.arrays) in
+                  let before = map (edge_at e x) (take steps walked) in
+                  let after = path_of (n - (steps + 1)) (other_end e x k a) in
+                  let one_more : take (steps + 1) (set walked steps k) ≡ take steps walked ++ (k ∷ []) = rw (add-one steps) (take-suc-set walked steps k fits) in
+                  let longer : map (edge_at e x) (take (steps + 1) (set walked steps k)) ++ after ≡ before ++ (edge_at e x k ∷ after) = rw (one_more, map-append (edge_at e x)) (append_snoc before (edge_at e x k) after) in
+                  let done : map (edge_at e x) (take (steps + 1) (set walked steps k)) ++ after ≡ path_of n from =
+                  longer ∙ ap (λ (rest : List Edge). before ++ rest) (sym (next.goes_on (n - (steps + 1))) ∙ ap (λ (m : ℕ). path_of m a) (sym more)) ∙ way.done in
+                  record {
+                    distance = next.rest;
+                    known = next.known;
+                    short = one_less (steps + 1) (set walked steps k) after (omega (arith, length-set walked steps k, fits)) done way.brief;
+                    brief = way.brief;
+                    done = done;
+                    ways =
+                        record {
+                          whole = length-set walked steps k ∙ way.ways.whole;
+                          numbered = stored_below (λ i. i < e.count) walked steps k 0 fits way.ways.numbered next.numbered;
+                          open_to_lem = stored_below (λ i. open_at e x i ≡ true) walked steps k 0 fits way.ways.open_to_lem next.open_to_lem;
+                        };
+                  }

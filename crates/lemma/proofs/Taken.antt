@@ -15,7 +15,8 @@ use Rattle.paper.specs.Edges.{Source}
 use Rattle.paper.specs.Reach.{reaches}
 use Rattle.paper.specs.Conflict.{Pair, conflicts, first_pair, conflict}
 use Rattle.meaning.proofs.Lists.{find_same, range_in}
-use Rattle.terms.specs.Tables.{Tables, source_in}
+use Rattle.terms.specs.declared.Tables.{Tables}
+use Rattle.terms.specs.Tables.{source_in}
 use Rattle.terms.specs.Holds.{Holds}
 use Rattle.terms.specs.Graph.{Graphed}
 use Rattle.reach.specs.Reached.{Sources, opens_in, sources_in, origin_at, value_at, RowOf}

@@ -11,13 +11,15 @@ use Rattle.paper.specs.Terms.{Query, given, assigned}
 use Rattle.paper.specs.Edges.{Edge, open_edges}
 use Rattle.paper.specs.Reach.{index_value, near, step_cost, distances}
 use Rattle.paper.specs.Lemma.{path_from, path, lemma}
-use Rattle.terms.specs.Tables.{Tables, source_in}
+use Rattle.terms.specs.declared.Tables.{Tables}
+use Rattle.terms.specs.Tables.{source_in}
 use Rattle.terms.specs.Holds.{Holds}
 use Rattle.terms.specs.Graph.{Graphed}
 use Rattle.reach.specs.Reached.{opens_in, sources_in, origin_at, value_at}
 use Rattle.reach.proofs.Paper.{source_at, source_within, index_same, distances_same}
 use Rattle.lemma.specs.Pairs.{Numbers}
-use Rattle.lemma.specs.Rows.{listed, literals_of}
+use Rattle.lemma.specs.declared.rows.Literal.{Literal as Row}
+use Rattle.lemma.specs.Rows.{literals_of}
 use Rattle.lemma.specs.Literals.{literals_for}
 use Rattle.lemma.specs.Fixed.{stays_by}
 use Rattle.lemma.specs.Between.{LemmaBetween}
@@ -33,11 +35,11 @@ module _ {query : Query} {t : Tables} (held : Holds query t) (graph : Graphed qu
       ap₂ (λ (n : ℕ) (among : List Edge). path_from step_cost n among (near step_cost (opens_in t x) t.counts.arrays goal t.counts.arrays) from) (sym (held.counts.given_as array)) (graph.opened x)
       ∙ ap (λ (table : List (Option ℕ)). path_from step_cost (given array query.terms) (open_edges query.terms (assigned query.guess) x) table from) (distances_same held graph x goal)
 
-  pub lemma_paper : (numbers : Numbers) → numbers.first < t.counts.sources → numbers.later < t.counts.sources → (literals : List ℕ) (count : ℕ)
-      → LemmaBetween t.values t.truths t.reads t.edges t.counts.edges t.counts.arrays (get_or t.sources numbers.first 0) (get_or t.sources numbers.later 0) literals count
-      → literals_of (listed literals count) ≡ lemma query.terms (assigned query.guess) (pair_at (sources_in t) numbers)
+  pub lemma_paper : (numbers : Numbers) → numbers.first < t.counts.sources → numbers.later < t.counts.sources → (rows : List Row)
+      → LemmaBetween t (get_or t.sources numbers.first 0) (get_or t.sources numbers.later 0) rows
+      → literals_of rows ≡ lemma query.terms (assigned query.guess) (pair_at (sources_in t) numbers)
   unfolding lemma path source_in
-  lemma_paper numbers inside later_inside literals count known =
+  lemma_paper numbers inside later_inside rows known =
       known.same
       ∙ ap (λ (along : List Edge). keep (stays_by t.reads) (literals_for (get_or t.sources numbers.first 0) (get_or t.sources numbers.later 0) along))
       (path_paper (value_at (sources_in t) numbers.first) (origin_at (sources_in t) numbers.first) (origin_at (sources_in t) numbers.later)

@@ -1,12 +1,11 @@
 -- 01, The lemma, over the code's tables: when two sources conflict, and the pair that is taken.
 -- Assumes nothing.
-use Rattle.std.specs.Prelude.{ℕ, ◌<◌, ◌≤◌, ◌≡◌, Bool, true, false, cond, List, [], ◌∷◌, eqb, length, get_or}
+use Rattle.std.specs.Prelude.{ℕ, ◌<◌, ◌≤◌, ◌≡◌, Bool, true, false, cond, List, [], ◌∷◌, eqb, length, get_or, Some, None}
+use Rattle.std.specs.Prelude.{Option as Found}
 use Rattle.std.proofs.Math.Option.{Option, none, some}
 use Rattle.paper.specs.Sizes.{max_sources}
 use Rattle.paper.specs.Lists.{or_else, map_option, find, range}
 use Rattle.reach.specs.Reached.{Sources, bit, origin_at, value_at, assigned_at, NextOf}
-use Rattle.lemma.specs.declared.Found.{Found}
-use Rattle.lemma.specs.declared.Found.TheVariants.{Pair, Nothing}
 
 -- the numbers of s and t of the paper
 pub record Numbers : Type 0 where
@@ -36,9 +35,9 @@ unfoldable pub pair_in : Sources → (rows : List ℕ) → Option Numbers
 pair_in s rows = pair_among (clash_in s rows) (range 0 s.count)
 
 -- what the code's answer says
-abbrev pub found_of : Found → Option Numbers
-found_of (Pair i j) = some (record { first = i; later = j })
-found_of Nothing = none
+abbrev pub found_of : Found (ℕ × ℕ) → Option Numbers
+found_of (Some (i, j)) = some (record { first = i; later = j })
+found_of None = none
 
 -- each source is linked to the next of its index value
 abbrev pub Linked : Sources → (links : List ℕ) → Type 0

@@ -1,14 +1,17 @@
 -- 01, The lemma, over the code's tables: which edge a path takes next, and the edges that a path names.
 -- Assumes nothing.
-use Rattle.std.specs.Prelude.{ℕ, ◌+◌, ◌/◌, ◌%◌, ◌<◌, ◌≤◌, ◌≡◌, Bool, true, false, cond, List, [], ◌∷◌, map, eqb, length, get_or, take}
+use Rattle.std.specs.Prelude.{ℕ, ◌+◌, ◌/◌, ◌%◌, ◌<◌, ◌≤◌, ◌≡◌, Bool, true, false, cond, List, [], ◌∷◌, map, eqb, length, get_or, take, Some, None}
+use Rattle.std.specs.Prelude.{Option as Found}
 use Rattle.std.proofs.Math.Option
-use Rattle.std.proofs.Math.Option.{none}
+use Rattle.std.proofs.Math.Option.{Option, none, some}
 use Rattle.paper.specs.Sizes.{max_arrays, max_edges}
-use Rattle.paper.specs.Lists.{keep, find, range}
+use Rattle.paper.specs.Lists.{map_option, keep, find, range}
 use Rattle.paper.specs.Edges.{Guard, Edge}
 use Rattle.paper.specs.Reach.{across, near, step_cost}
 use Rattle.paper.specs.Lemma.{path_from}
-use Rattle.terms.specs.Graph.{open_in}
+use Rattle.terms.specs.declared.Tables.{Tables}
+use Rattle.terms.specs.declared.graph.Edge.{Edge as FoundEdge}
+use Rattle.terms.specs.Graph.{open_in, edge_found}
 use Rattle.reach.specs.Reached.{reached_in}
 use Rattle.costs.specs.Distances.{entry_of}
 
@@ -21,6 +24,10 @@ pub record EdgeTable : Type 0 where
 
 abbrev pub table_of : (values truths rows : List ℕ) (count : ℕ) → EdgeTable
 table_of values truths rows count = record { values = values; truths = truths; rows = rows; count = count }
+
+-- those of the tables
+abbrev pub table_in : Tables → EdgeTable
+table_in t = table_of t.values t.truths t.edges t.counts.edges
 
 abbrev pub ways_at : EdgeTable → (x k : ℕ) → List Edge
 ways_at e x k = open_in e.values e.truths x (get_or e.rows k 0)
@@ -54,29 +61,26 @@ pub record Ends (e : EdgeTable) (x n : ℕ) : Type 0 where
 abbrev pub distance_at : (distances : List (List ℕ)) → (a b : ℕ) → ℕ
 distance_at distances a b = get_or (get_or distances a []) b 0
 
--- the other end of edge k, and a itself where the edge does not join it
+-- the other end of an edge, and a itself where the edge does not join it
+abbrev pub far_end : Edge → (a : ℕ) → ℕ
+far_end edge a = Option.get_or (across a edge) a
+
+-- the same of edge k
 abbrev pub other_end : EdgeTable → (x k a : ℕ) → ℕ
-other_end e x k a = Option.get_or (across a (edge_at e x k)) a
-
--- the same of the two ends alone
-abbrev pub far_end : (left right a : ℕ) → ℕ
-far_end left right a = Option.get_or (across a (record { left = left; right = right; guard = Guard.differ 0 })) a
-
--- what a step costs, by the tag of its edge's literal
-abbrev pub tag_cost : (tag : ℕ) → ℕ
-tag_cost tag = cond (eqb tag 0x22) 49 1
+other_end e x k a = far_end (edge_at e x k) a
 
 -- is the one distance what is left of the other after a step of that cost?
 abbrev pub step_less : (onward cost away : ℕ) → Bool
 step_less onward cost away = eqb ((onward + cost) % 128) away
 
--- is a way open, and is its other end nearer to the goal than a by what the step costs?
-abbrev pub nearer_over : (opens : Bool) → (left right cost : ℕ) → (distances : List (List ℕ)) → (a goal : ℕ) → Bool
-nearer_over opens left right cost distances a goal = cond opens (step_less (distance_at distances (far_end left right a) goal) cost (distance_at distances a goal)) false
+-- is the other end of an edge nearer to the goal than a by what the step costs?
+abbrev pub nearer_over : Edge → (distances : List (List ℕ)) → (a goal : ℕ) → Bool
+nearer_over edge distances a goal = step_less (distance_at distances (far_end edge a) goal) (step_cost edge.guard) (distance_at distances a goal)
 
--- the same of the edges of a row, of which one is open or none; and the ends of that one are array terms
-abbrev pub nearer_in : List Edge → (distances : List (List ℕ)) → (a goal : ℕ) → Bool
-nearer_in edges distances a goal = nearer_over (is_there edges) (first_of edges).left (first_of edges).right (step_cost (first_of edges).guard) distances a goal
+-- of the edges of a row, of which one is open or none, that which leads nearer; and the ends of the one that is open are array terms
+abbrev pub nearer_in : List Edge → (distances : List (List ℕ)) → (a goal : ℕ) → List Edge
+nearer_in [] distances a goal = []
+nearer_in (edge ∷ edges) distances a goal = cond (nearer_over edge distances a goal) (edge ∷ []) []
 
 abbrev pub RowWithin : List Edge → Type 0
 RowWithin edges = ((first_of edges).left < max_arrays) × ((first_of edges).right < max_arrays)
@@ -87,12 +91,16 @@ touches_in row a = cond (eqb (row % 64) a) true (cond (eqb (row / 64 % 64) a) tr
 
 -- is edge k open to x, and is its other end nearer to the goal than a by what the step costs?
 abbrev pub nearer_by : EdgeTable → (distances : List (List ℕ)) → (x a goal k : ℕ) → Bool
-nearer_by e distances x a goal k =
-    cond (open_at e x k) (step_less (distance_at distances (other_end e x k a) goal) (step_cost (edge_at e x k).guard) (distance_at distances a goal)) false
+nearer_by e distances x a goal k = cond (open_at e x k) (nearer_over (edge_at e x k) distances a goal) false
 
--- "the lowest-numbered open edge that lies on such a path", or the number of edges where there is none
-unfoldable pub nearer_edge : EdgeTable → (distances : List (List ℕ)) → (x a goal : ℕ) → ℕ
-nearer_edge e distances x a goal = Option.get_or (find (nearer_by e distances x a goal) (range 0 e.count)) e.count
+-- "the lowest-numbered open edge that lies on such a path", with its number, if there is one
+unfoldable pub nearer_edge : EdgeTable → (distances : List (List ℕ)) → (x a goal : ℕ) → Option (ℕ × Edge)
+nearer_edge e distances x a goal = map_option (λ k. (k, edge_at e x k)) (find (nearer_by e distances x a goal) (range 0 e.count))
+
+-- what the code's answer says
+abbrev pub edge_numbered : Found (ℕ × FoundEdge) → Option (ℕ × Edge)
+edge_numbered (Some (k, edge)) = some (k, edge_found edge)
+edge_numbered None = none
 
 -- the table holds the distances over the edges open to x
 abbrev pub DistancesOf : EdgeTable → (x n : ℕ) → (distances : List (List ℕ)) → Type 0

@@ -1,31 +1,36 @@
 // The path (02, E6): of the fewest writes, and among those of the fewest edges, found by comparing distances.
-ghost use Rattle.std.specs.Prelude.{◌≡◌, true, ◌<◌, length};
+ghost use Rattle.std.specs.Prelude.{◌≡◌, ◌<◌, length};
 ghost use Rattle.paper.specs.Sizes.{max_arrays};
-ghost use Rattle.terms.specs.Graph.{open_in};
-ghost use Rattle.lemma.specs.Steps.{table_of, Ends, far_end, tag_cost, step_less, nearer_over, nearer_edge, Asked, PathOf, RowWithin, touches_in, nearer_in};
+ghost use Rattle.paper.specs.Reach.{step_cost};
+ghost use Rattle.terms.specs.Graph.{guard_found, edge_found, edges_found, open_in};
+ghost use Rattle.lemma.specs.Steps.{table_in, Ends, far_end, step_less, nearer_over, nearer_in, nearer_edge, edge_numbered, Asked, PathOf, RowWithin, touches_in};
 
 use costs::{ENTRIES, WRITE_COST};
-use paper::{DIFFER, MAX_ARRAYS, MAX_BASES, MAX_BOOLEANS, MAX_EDGES};
-use terms::graph::{left_of, open_way, other_of, right_of};
+use paper::MAX_ARRAYS;
+use terms::Tables;
+use terms::graph::{Edge, Guard, left_of, other_of, right_of};
 
 // "An edge can be walked both ways": the other end of an edge, or a itself where the edge does not join it.
-fn other_end(one: usize, other: usize, a: usize) -> usize
-    ensures { result ≡ far_end one other a }
+fn other_end(edge: Edge, a: usize) -> usize
+    ensures { result ≡ far_end (edge_found edge) a }
 {
-    if one == a {
-        other
-    } else if other == a {
-        one
+    if edge.left == a {
+        edge.right
+    } else if edge.right == a {
+        edge.left
     } else {
         a
     }
 }
 
-// What a step costs, by the tag of its edge's literal.
-fn step_cost(tag: u8) -> u16
-    ensures { result ≡ tag_cost tag }
+// What a step costs, by the guard of its edge.
+fn step_cost(guard: Guard) -> u16
+    ensures { result ≡ step_cost (guard_found guard) }
 {
-    if tag == DIFFER { WRITE_COST } else { 1 }
+    match guard {
+        Guard::Differ(_) => WRITE_COST,
+        Guard::IsTrue(_) | Guard::IsFalse(_) => 1,
+    }
 }
 
 // Is the one distance what is left of the other after a step of that cost?
@@ -37,121 +42,91 @@ fn step_less(onward: u8, cost: u16, away: u8) -> bool
     entry == away as usize
 }
 
-// Is a way open, and does it lie on a path of least cost?
+// Does an open edge lie on a path of least cost from a?
 fn leads_nearer(
-    opens: bool,
-    left: usize,
-    right: usize,
-    cost: u16,
+    edge: Edge,
     distances: &[[u8; MAX_ARRAYS]; MAX_ARRAYS],
     a: usize,
     goal: usize,
 ) -> bool
-    requires { (opens ≡ true → (left < max_arrays) × (right < max_arrays)) × (a < max_arrays) × (goal < max_arrays) }
-    ensures { result ≡ nearer_over opens left right cost distances.now a goal }
+    requires { (edge.left < max_arrays) × (edge.right < max_arrays) × (a < max_arrays) × (goal < max_arrays) }
+    ensures { result ≡ nearer_over (edge_found edge) distances.now a goal }
 {
-    if opens {
-        let b = other_end(left, right, a);
-        step_less(distances[b][goal], cost, distances[a][goal])
-    } else {
-        false
-    }
+    let b = other_end(edge, a);
+    let cost = step_cost(edge.guard);
+    step_less(distances[b][goal], cost, distances[a][goal])
 }
 
 // Can a row join the array term at all? Most cannot, and need not be opened.
 fn touches(row: u32, a: usize) -> bool
     ensures { result ≡ touches_in row a }
 {
-    let left = left_of(row);
-    if left == a {
-        return true;
-    }
-    let right = right_of(row);
-    if right == a {
-        return true;
-    }
-    let other = other_of(row);
-    other == a
+    left_of(row) == a || right_of(row) == a || other_of(row) == a
 }
 
-// Is a row open, and does it lie on a path of least cost?
-fn row_leads<'a>(
-    values: &'a [u64; MAX_BASES],
-    truths: &'a [u8; MAX_BOOLEANS],
+// The edge of a row, if it is open and lies on a path of least cost from a. (Tables, index value, distances and goal go through three functions
+// of this file alone.)
+fn row_leads(
+    tables: &Tables,
     x: u64,
     row: u32,
-    distances: &'a [[u8; MAX_ARRAYS]; MAX_ARRAYS],
+    distances: &[[u8; MAX_ARRAYS]; MAX_ARRAYS],
     a: usize,
     goal: usize,
-) -> bool
-    requires { RowWithin (open_in values.now truths.now x row) × (a < max_arrays) × (goal < max_arrays) }
-    ensures { result ≡ nearer_in (open_in values.now truths.now x row) distances.now a goal }
+) -> Option<Edge>
+    requires { RowWithin (open_in tables.now.values tables.now.truths x row) × (a < max_arrays) × (goal < max_arrays) }
+    ensures { edges_found result ≡ nearer_in (open_in tables.now.values tables.now.truths x row) distances.now a goal }
 {
-    if touches(row, a) {
-        let way = open_way(values, truths, x, row);
-        let opens = way.open;
-        let left = way.left;
-        let right = way.right;
-        let tag = way.tag;
-        let cost = step_cost(tag);
-        return leads_nearer(opens, left, right, cost, distances, a, goal);
+    if !touches(row, a) {
+        return None;
     }
-    false
+    let edge = tables.open(x, row)?;
+    leads_nearer(edge, distances, a, goal).then_some(edge)
 }
 
-// "the lowest-numbered open edge that lies on such a path", or the number of edges where there is none
-fn nearer_edge<'a>(
-    values: &'a [u64; MAX_BASES],
-    truths: &'a [u8; MAX_BOOLEANS],
-    edges: &'a [u32; MAX_EDGES],
-    count: usize,
-    distances: &'a [[u8; MAX_ARRAYS]; MAX_ARRAYS],
+// "the lowest-numbered open edge that lies on such a path", with its number, or nothing where there is none
+fn nearer_edge(
+    tables: &Tables,
+    distances: &[[u8; MAX_ARRAYS]; MAX_ARRAYS],
     x: u64,
     a: usize,
     goal: usize,
-) -> usize
-    requires { Ends (table_of values.now truths.now edges.now count) x max_arrays × (a < max_arrays) × (goal < max_arrays) }
-    ensures { result ≡ nearer_edge (table_of values.now truths.now edges.now count) distances.now x a goal }
+) -> Option<(usize, Edge)>
+    requires { Ends (table_in tables.now) x max_arrays × (a < max_arrays) × (goal < max_arrays) }
+    ensures { edge_numbered result ≡ nearer_edge (table_in tables.now) distances.now x a goal }
 {
-    let mut k = 0;
-    while k < count {
-        let row = edges[k];
-        if row_leads(values, truths, x, row, distances, a, goal) {
-            return k;
+    let count = tables.counts.edges as usize;
+    for (k, &row) in tables.edges[..count].iter().enumerate() {
+        if let Some(edge) = row_leads(tables, x, row, distances, a, goal) {
+            return Some((k, edge));
         }
-        k += 1;
     }
-    k
+    None
 }
 
 // "The path shall have the fewest write edges, and among those the fewest edges; at each step the lowest-numbered open edge that lies on
-// such a path." Puts the edges' numbers into the path, and answers how many steps it has.
-pub fn least_path<'a>(
-    values: &'a [u64; MAX_BASES],
-    truths: &'a [u8; MAX_BOOLEANS],
-    edges: &'a [u32; MAX_EDGES],
-    ways: usize,
-    distances: &'a [[u8; MAX_ARRAYS]; MAX_ARRAYS],
+// such a path." Puts the edges' numbers into the path, and answers how many steps it has: `PathOf` is promised of the two.
+pub fn least_path(
+    tables: &Tables,
+    distances: &[[u8; MAX_ARRAYS]; MAX_ARRAYS],
     x: u64,
-    arrays: usize,
     from: usize,
     goal: usize,
     path: &mut [u8; MAX_ARRAYS],
 ) -> usize
-    requires { Asked (table_of values.now truths.now edges.now ways) x arrays from goal distances.now × (length path.old ≡ max_arrays) }
-    ensures { PathOf (table_of values.now truths.now edges.now ways) x arrays from goal path.new result }
+    requires { Asked (table_in tables.now) x tables.now.counts.arrays from goal distances.now × (length path.old ≡ max_arrays) }
+    ensures { PathOf (table_in tables.now) x tables.now.counts.arrays from goal path.new result }
 {
     let mut steps = 0;
     let mut a = from;
     while a != goal {
-        let k = nearer_edge(values, truths, edges, ways, distances, x, a, goal);
+        // Away from a goal that is reached some edge leads nearer.
+        let Some((k, edge)) = nearer_edge(tables, distances, x, a, goal) else {
+            unreachable!()
+        };
         path[steps] = k as u8;
         steps += 1;
-        let row = edges[k];
-        let way = open_way(values, truths, x, row);
-        let left = way.left;
-        let right = way.right;
-        a = other_end(left, right, a);
+        a = other_end(edge, a);
     }
     steps
 }

@@ -16,7 +16,8 @@ use Rattle.paper.specs.Reach.{distances, reaches_at, reaches}
 use Rattle.paper.specs.Model.{value_given, model}
 use Rattle.paper.specs.Cells.{cell_of, place_all, cells}
 use Rattle.meaning.proofs.Lists.{range_in}
-use Rattle.terms.specs.Tables.{Tables, source_in}
+use Rattle.terms.specs.declared.Tables.{Tables}
+use Rattle.terms.specs.Tables.{source_in}
 use Rattle.terms.specs.Holds.{Holds}
 use Rattle.terms.specs.Graph.{Graphed}
 use Rattle.reach.specs.Reached.{opens_in, sources_in, reached_in, bit, origin_at, RowOf}

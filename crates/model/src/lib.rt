@@ -5,13 +5,14 @@ mod cells;
 
 ghost use Rattle.std.specs.Prelude.{◌≡◌, ℕ, ◌<◌, ◌≤◌};
 ghost use Rattle.paper.specs.Sizes.{max_arrays, max_sources};
-ghost use Rattle.reach.specs.Reached.{open_to, sources_of, origin_at};
+ghost use Rattle.reach.specs.Reached.{opens_in, sources_in, origin_at};
 ghost use Rattle.reach.specs.Steps.{Within};
 ghost use Rattle.model.specs.Held.{holds_of, value_by, ValueOf};
 
-pub use cells::list_cells;
-use paper::{MAX_BASES, MAX_BOOLEANS, MAX_EDGES, MAX_SOURCES};
-use terms::graph::{assigned_value, index_value, origin_of};
+pub use cells::{Cell, Cells, list_cells};
+use reach::stands_in;
+use terms::Tables;
+use terms::graph::origin_of;
 
 // The model's value "where there is none".
 const UNREACHED: u64 = 0;
@@ -21,52 +22,32 @@ fn holds(value: u64, index: u64, row: u64, origin: usize) -> bool
     requires { origin < max_arrays }
     ensures { result ≡ holds_of value index row origin }
 {
-    if value != index {
-        return false;
-    }
-    (row >> origin) % 2 == 1
+    value == index && stands_in(row, origin)
 }
 
 // The value of the first source of the index value whose origin stands in the row, and 0 where there is none.
-fn value_from<'a>(
-    values: &'a [u64; MAX_BASES],
-    sources: &'a [u32; MAX_SOURCES],
-    count: usize,
-    row: u64,
-    index: u64,
-) -> u64
-    requires { (count ≤ max_sources) × ((k : ℕ) → k < count → origin_at (sources_of values.now sources.now count) k < max_arrays) }
-    ensures { result ≡ value_by (sources_of values.now sources.now count) row index }
+fn value_from(tables: &Tables, row: u64, index: u64) -> u64
+    requires few { tables.now.counts.sources ≤ max_sources }
+    requires origins { (k : ℕ) → k < tables.now.counts.sources → origin_at (sources_in tables.now) k < max_arrays }
+    ensures { result ≡ value_by (sources_in tables.now) row index }
 {
-    let mut k = 0;
-    while k < count {
-        let source = sources[k];
-        let value = index_value(values, source);
-        let origin = origin_of(source);
-        if holds(value, index, row, origin) {
-            return assigned_value(values, source);
+    let count = tables.counts.sources as usize;
+    for source in &tables.sources[..count] {
+        let value = tables.index_value(*source);
+        if holds(value, index, row, origin_of(*source)) {
+            return tables.assigned_value(*source);
         }
-        k += 1;
     }
     UNREACHED
 }
 
 // "at array a and index v the value of any source that reaches a with index value v, and 0 where there is none": reach goes both ways, so
 // what the array term reaches is spread once.
-pub fn value_at<'a>(
-    values: &'a [u64; MAX_BASES],
-    truths: &'a [u8; MAX_BOOLEANS],
-    edges: &'a [u32; MAX_EDGES],
-    ways: usize,
-    sources: &'a [u32; MAX_SOURCES],
-    count: usize,
-    arrays: usize,
-    array: usize,
-    index: u64,
-) -> u64
-    requires { Within edges.now ways (sources_of values.now sources.now count) arrays × (array < arrays) }
-    ensures { ValueOf (open_to values.now truths.now edges.now ways) (sources_of values.now sources.now count) arrays array index result }
+pub fn value_at(tables: &Tables, array: usize, index: u64) -> u64
+    requires within { Within tables.now.edges tables.now.counts.edges (sources_in tables.now) tables.now.counts.arrays }
+    requires inside { array < tables.now.counts.arrays }
+    ensures { ValueOf (opens_in tables.now) (sources_in tables.now) tables.now.counts.arrays array index result }
 {
-    let row = reach::reached_from(values, truths, edges, ways, index, arrays, array);
-    value_from(values, sources, count, row, index)
+    let row = reach::reached_from(tables, index, array);
+    value_from(tables, row, index)
 }

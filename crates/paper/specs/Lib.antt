@@ -15,3 +15,4 @@ pub mod Clauses
 pub mod Reading
 pub mod Answers
 pub mod Fronts
+pub mod Reasons

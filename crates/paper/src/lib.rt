@@ -1,6 +1,12 @@
-// The numbers of 01, each said once: limits, sizes, tags and refusals. What the paper says stands in specs/, as definitions over lists; its known
-// queries are proved in proofs/.
+// The numbers of 01, each said once: limits, sizes, tags of literals and refusals. What the paper says stands in specs/, as definitions over
+// lists; its known queries are proved in proofs/.
 #![tactic(auto)]
+
+ghost use Rattle.std.specs.Prelude.{◌≡◌, Some};
+ghost use Rattle.paper.specs.Reasons.{number_of, refused_text};
+
+use std::error::Error;
+use std::fmt;
 
 // The most array terms, base terms and Booleans of a query, and its most bytes.
 pub const MAX_ARRAYS: usize = 48;
@@ -28,24 +34,8 @@ pub const WIDTH: usize = 32;
 
 pub const NUMBERS: u64 = 4294967296;
 
-// The tags of fields: "01 free base .. 07 equality"; 02, E1: "New tag 08".
-pub const FREE_BASE: u8 = 0x01;
-
-pub const FREE_BOOLEAN: u8 = 0x02;
-
-pub const VARIABLE: u8 = 0x03;
-
-pub const WRITE: u8 = 0x04;
-
-pub const CONDITIONAL: u8 = 0x05;
-
-pub const READ: u8 = 0x06;
-
-pub const EQUALITY: u8 = 0x07;
-
-pub const FIXED: u8 = 0x08;
-
-// The tags of literals: "Fields: 21 equal, 22 differ, 25 conclusion .. 23 true, 24 false".
+// The tags of literals: "Fields: 21 equal, 22 differ, 25 conclusion .. 23 true, 24 false". They are bytes of a lemma, which are matched in patterns
+// of slices (`lines`), where no enum can stand.
 pub const EQUAL: u8 = 0x21;
 
 pub const DIFFER: u8 = 0x22;
@@ -56,27 +46,55 @@ pub const IS_FALSE: u8 = 0x24;
 
 pub const CONCLUSION: u8 = 0x25;
 
-// Refusals by number.
-pub const TOO_LONG: u8 = 1;
+// Why a call is refused: "Refusals by number".
+#[derive(Clone, Copy, Debug, PartialEq, Eq)]
+pub enum Reason {
+    TooLong = 1,
+    RunsPastEnd = 2,
+    UnknownTag = 3,
+    WrongLength = 4,
+    TooMany = 5,
+    NotGiven = 6,
+    WrongTruth = 7,
+    WrongWitness = 8,
+    EqualWitnesses = 9,
+    NoRoom = 10,
+    NoCell = 11,
+    OtherVerdict = 12,
+}
 
-pub const RUNS_PAST_END: u8 = 2;
+impl Reason {
+    // The number that 01 gives it, by 01's word: `From` would say only that there is one.
+    pub fn number(self) -> u8
+        ensures { result ≡ number_of self }
+    {
+        self as u8
+    }
+}
 
-pub const UNKNOWN_TAG: u8 = 3;
+// A refused call: why, and at which byte of the query.
+#[derive(Clone, Copy, Debug, PartialEq, Eq)]
+pub struct Refusal {
+    pub reason: Reason,
+    pub offset: usize,
+}
 
-pub const WRONG_LENGTH: u8 = 4;
+impl Refusal {
+    // The refusal of a call as a whole, and of no field: its offset is 0.
+    pub fn whole(reason: Reason) -> Self
+        ensures { result ≡ record { reason = reason; offset = 0 } }
+    {
+        Refusal { reason, offset: 0 }
+    }
+}
 
-pub const TOO_MANY: u8 = 5;
+// "`refused` number offset"
+impl fmt::Display for Refusal {
+    ghost output = { λ refusal. Some (refused_text refusal) };
 
-pub const NOT_GIVEN: u8 = 6;
+    fn fmt<W: fmt::Write>(&self, f: &mut fmt::Formatter<W>) -> fmt::Result {
+        write!(f, "refused {} {}", self.reason.number(), self.offset)
+    }
+}
 
-pub const WRONG_TRUTH: u8 = 7;
-
-pub const WRONG_WITNESS: u8 = 8;
-
-pub const EQUAL_WITNESSES: u8 = 9;
-
-pub const NO_ROOM: u8 = 10;
-
-pub const NO_CELL: u8 = 11;
-
-pub const OTHER_VERDICT: u8 = 12;
+impl Error for Refusal {}

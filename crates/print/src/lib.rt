@@ -2,10 +2,12 @@
 // which goes out when it is full and at the end, so that many short lines take few writes.
 #![tactic(auto)]
 
-ghost use Rattle.std.specs.Prelude.{◌≤◌};
+ghost use Rattle.std.specs.Prelude.{◌≡◌, ◌<◌, ◌≤◌, length, IfSome, Some};
 ghost use Rattle.io.specs.Counts.{IsPrefixLen};
+ghost use Rattle.print.specs.Lines.{entry_text};
 
 use paper::MAX_BYTES;
+use std::fmt;
 use std::fmt::Display;
 use std::io::Read;
 
@@ -13,21 +15,23 @@ use std::io::Read;
 pub const QUERY_ROOM: usize = MAX_BYTES + 1;
 
 // How many bytes a page holds.
-pub const PAGE: usize = 4096;
+const PAGE_BYTES: usize = 4096;
 
 // What cannot be read or written is said on standard error, with why, and the program goes on.
 fn fail(rt: &impl Eprint, what: &str, why: impl Display + Drop) {
     let _ = rt.eprintln(format_args!("{what}: {why}"));
 }
 
-// Reads once, and answers how many bytes there were: none at the input's end, and none where the read fails.
+// Reads once, and answers how many bytes there were: none at the input's end, and none where the read fails. No `Option`: either ends the
+// reading, and `ends` asks which it was.
 fn read_some(input: &mut impl Read, buffer: &mut [u8]) -> usize
     ensures { IsPrefixLen result buffer.new }
 {
     input.read(buffer).unwrap_or(0)
 }
 
-// Reads until the buffer is full, the input ends or a read fails, and answers how many bytes it put at the start of the buffer.
+// Reads until the buffer is full, the input ends or a read fails, and answers how many bytes it put at the start of the buffer: `read_exact`
+// does not tell how many.
 pub fn read_full(input: &mut impl Read, buffer: &mut [u8]) -> usize
     ensures { IsPrefixLen result buffer.new }
 {
@@ -42,29 +46,20 @@ pub fn read_full(input: &mut impl Read, buffer: &mut [u8]) -> usize
     done
 }
 
-// Reads so many bytes, and answers whether they were there.
-pub fn fill(input: &mut impl Read, bytes: &mut [u8], length: usize) -> bool {
-    if bytes.len() < length {
-        return false;
-    }
-    let held = read_full(input, &mut bytes[..length]);
-    length <= held
-}
-
-// Reads into the buffer, up to the end of the input or the buffer, and answers how many bytes there were.
-pub fn read_query(input: &mut impl Read, buffer: &mut [u8]) -> usize
-    ensures { IsPrefixLen result buffer.new }
+// Reads so many bytes to the start of the room: none where they are not there, or are more than it holds.
+pub fn fill<'a>(input: &mut impl Read, room: &'a mut [u8], count: usize) -> Option<&'a [u8]>
+    ensures { IfSome result (λ bytes. length bytes.now ≡ count) }
 {
-    read_full(input, buffer)
+    let bytes = room.get_mut(..count)?;
+    if read_full(input, bytes) < count {
+        return None;
+    }
+    Some(bytes)
 }
 
-// Was the query read whole? A read that stopped short of the buffer's end must have met the input's. Otherwise standard error says why.
-pub fn was_read(rt: &impl Eprint, input: &mut impl Read, held: usize) -> bool {
-    if held == QUERY_ROOM {
-        return true;
-    }
-    let mut more = [0u8; 1];
-    match input.read(&mut more) {
+// Does the input end here? Otherwise standard error says why what was read of it is not all.
+fn ends(rt: &impl Eprint, input: &mut impl Read) -> bool {
+    match input.read(&mut [0]) {
         Ok(0) => true,
         Ok(_) => {
             fail(rt, "standard input", "a read failed before its end");
@@ -77,88 +72,103 @@ pub fn was_read(rt: &impl Eprint, input: &mut impl Read, held: usize) -> bool {
     }
 }
 
-fn send(rt: &(impl Print + Eprint), bytes: &[u8]) {
-    if let Err(error) = rt.write_all(bytes) {
-        fail(rt, "standard output", error);
-    }
-}
-
-// Each function that prints takes the page and how many bytes stand on it, and answers how many stand there then.
-pub fn byte(rt: &(impl Print + Eprint), page: &mut [u8; PAGE], used: usize, value: u8) -> usize {
-    if used < PAGE {
-        page[used] = value;
-        return used + 1;
-    }
-    send(rt, page);
-    page[0] = value;
-    1
-}
-
-pub fn text(rt: &(impl Print + Eprint), page: &mut [u8; PAGE], used: usize, bytes: &[u8]) -> usize {
-    let mut stand = used;
-    for value in bytes {
-        stand = byte(rt, page, stand, *value);
-    }
-    stand
-}
-
-pub fn number(rt: &(impl Print + Eprint), page: &mut [u8; PAGE], used: usize, n: u64) -> usize {
-    let mut digits = [0u8; 20];
-    let count = io::decimal(n, &mut digits);
-    text(rt, page, used, &digits[..count])
-}
-
-// How far a number lies above zero, and 0 for one below.
-fn height(n: i32) -> u64
-    ensures { result ≤ 2147483648 }
+// Reads a query into the buffer, up to the end of the input or the buffer. Where a read stopped short of both there is none, and standard
+// error says why.
+pub fn whole_query<'a>(
+    rt: &impl Eprint,
+    input: &mut impl Read,
+    buffer: &'a mut [u8],
+) -> Option<&'a [u8]>
+    ensures { IfSome result (λ query. IsPrefixLen (length query.now) buffer.old) }
 {
-    if n < 0 {
-        return 0;
+    let held = read_full(input, buffer);
+    if held < buffer.len() && !ends(rt, input) {
+        return None;
     }
-    n as u64
+    Some(&buffer[..held])
 }
 
-// `!n` is -1 - n, so that no number is too low to be printed.
-pub fn signed(rt: &(impl Print + Eprint), page: &mut [u8; PAGE], used: usize, n: i32) -> usize {
-    if n < 0 {
-        let stand = byte(rt, page, used, b'-');
-        return number(rt, page, stand, height(!n) + 1);
-    }
-    number(rt, page, used, height(n))
-}
-
-// "All decimal, one space between."
-pub fn then_number(
-    rt: &(impl Print + Eprint),
-    page: &mut [u8; PAGE],
+// What is to be printed, up to 4,096 bytes of it.
+pub struct Page<'a, R: Print + Eprint> {
+    rt: &'a R,
+    bytes: [u8; PAGE_BYTES],
     used: usize,
-    n: u64,
-) -> usize {
-    let stand = byte(rt, page, used, b' ');
-    number(rt, page, stand, n)
+    ghost fits: { used ≤ 4096 },
 }
 
-pub fn end_line(rt: &(impl Print + Eprint), page: &mut [u8; PAGE], used: usize) -> usize {
-    byte(rt, page, used, b'\n')
-}
+impl<'a, R: Print + Eprint> Page<'a, R> {
+    pub fn new(rt: &'a R) -> Page<'a, R>
+        ensures { result.used ≡ 0 }
+    {
+        Page {
+            rt,
+            bytes: [0; PAGE_BYTES],
+            used: 0,
+        }
+    }
 
-fn send_front(rt: &(impl Print + Eprint), bytes: &[u8], length: usize) {
-    if length <= bytes.len() {
-        send(rt, &bytes[..length]);
+    // Sends what stands on the page.
+    fn send(&mut self)
+        ensures { self.new.used ≡ 0 }
+    {
+        if let Err(error) = self.rt.write_all(&self.bytes[..self.used]) {
+            fail(self.rt, "standard output", error);
+        }
+        self.used = 0;
+    }
+
+    // Sends a full page, so that a byte has room.
+    fn make_room(&mut self)
+        ensures { self.new.used < 4096 }
+    {
+        if self.used == PAGE_BYTES {
+            self.send();
+        }
+    }
+
+    fn put(&mut self, byte: u8) {
+        self.make_room();
+        self.bytes[self.used] = byte;
+        self.used += 1;
+    }
+
+    // What `write!` and `writeln!` call. It does not fail, since a page that cannot be sent is told of at once.
+    pub fn write_fmt(&mut self, text: impl Display + Drop) {
+        let _ = fmt::Write::write_fmt(self, text);
     }
 }
 
-// Sends what stands on the page.
-pub fn finish(rt: &(impl Print + Eprint), page: &[u8; PAGE], used: usize) {
-    send_front(rt, page, used);
+impl<R: Print + Eprint> fmt::Write for Page<'_, R> {
+    fn write_str(&mut self, text: &str) -> fmt::Result {
+        for byte in text.as_bytes() {
+            self.put(*byte);
+        }
+        Ok(())
+    }
 }
 
-// "`refused` number offset"
-pub fn refused(rt: &(impl Print + Eprint), number: u8, offset: usize) {
-    let mut page = [0u8; PAGE];
-    let mut used = text(rt, &mut page, 0, b"refused");
-    used = then_number(rt, &mut page, used, number as u64);
-    used = then_number(rt, &mut page, used, offset as u64);
-    used = end_line(rt, &mut page, used);
-    finish(rt, &page, used);
+impl<R: Print + Eprint> Drop for Page<'_, R> {
+    fn drop(mut self) {
+        self.send();
+        let Page {
+            rt: _,
+            bytes: _,
+            used: _,
+        } = self;
+    }
+}
+
+// A number of the clauses, with what comes after it: "a clause per line with its 0".
+#[derive(Clone, Copy)]
+pub struct Entry(pub i32);
+
+impl Display for Entry {
+    ghost output = { λ entry. Some (entry_text entry.0) };
+
+    fn fmt<W: fmt::Write>(&self, f: &mut fmt::Formatter<W>) -> fmt::Result {
+        match self.0 {
+            0 => writeln!(f, "0"),
+            number => write!(f, "{number} "),
+        }
+    }
 }

@@ -2,7 +2,7 @@
 -- Assumes nothing.
 use Prim.Native.Nat.{ℕ, zero, suc, ◌+◌, ◌≤◌, ◌<◌}
 use mathlib.Core.Path.{◌≡◌, refl, sym, ap, ◌∙◌}
-use mathlib.Core.Bool.{Bool, true, false, not}
+use mathlib.Core.Bool.{not}
 use mathlib.Core.List.{List, [], ◌∷◌}
 use mathlib.Core.Option.{Option, none, some}
 use native.Mathlib.Omega.{arith}
@@ -10,11 +10,11 @@ use lib.Dec.{ltb, eqb}
 use lib.ListN.{length, drop, length-drop, drop_of_length-le}
 use lib.Seq.{drop-drop}
 use native.Mathlib.Decide.{dec_le}
-use borrow.Author.Tests.{lt-ltb, ltb-false}
-use Rattle.paper.specs.Lists.{is_some, ◌refuses◌, first_met}
+use borrow.Author.Tests.{ltb-false}
+use Rattle.paper.specs.Lists.{is_some, first_met}
 use Rattle.paper.specs.Fields.{Part, Kind, Item, kind_of, parts, size, own_length, cut, tag_at, length_at, head_tests, item_of, item_at, followed_by, items_from}
 use Rattle.query.specs.Standing.{end, broken, field, of_item, standing}
-use Rattle.query.proofs.Heads.{at_end}
+use Rattle.query.proofs.Heads.{passed, at_end, at_item}
 
 place_of : Item → ℕ
 place_of (Item.field at kind numbers) = at
@@ -42,14 +42,6 @@ field_item w at (some k) zero bytes place kind numbers e = (
       ap length (sym same) ∙ cut_length w (parts k) (drop 3 bytes) ∙ ap (λ (x : Kind). length (parts x)) kinds_same,
 )
 field_item w at (some k) (suc refusal) bytes place kind numbers e = let z : ◌≡◌ {A = ℕ} 0 1 = cc in absurd (omega arith)
-
--- a head that no test refuses has its whole value
-passed : (a b c d : Bool) → first_met ((a refuses 2) ∷ (b refuses 3) ∷ (c refuses 4) ∷ (d refuses 2) ∷ []) ≡ 0 → d ≡ false
-passed true b c d e = absurd (omega arith)
-passed false true c d e = absurd (omega arith)
-passed false false true d e = absurd (omega arith)
-passed false false false true e = absurd (omega arith)
-passed false false false false e = refl
 
 unroll_list : (bound w at : ℕ) (left : List ℕ) → 0 < length left
     → items_from (suc bound) w at left
@@ -84,7 +76,7 @@ item_fits w at left place kind numbers e =
           (not (is_some (kind_of (tag_at left))))
           (not (eqb (length_at left) (own_length w (kind_of (tag_at left)))))
           (ltb (length left) (3 + length_at left))
-          found.0),
+          found.0).1,
       found.1,
     )
 
@@ -103,10 +95,6 @@ module _ (w : ℕ) (bytes : List ℕ) (at : ℕ) where
       let some_left : 0 < length (drop at bytes) = simp length-drop (omega arith) in
       unroll_list bound w at (drop at bytes) some_left ∙ simp drop-drop
 
-  standing_inside : at < length bytes → standing w bytes at ≡ of_item (item_here w bytes at) (next_of bytes at)
-  unfolding standing
-  standing_inside inside = simp (lt-ltb at (length bytes) inside)
-
   here_place : place_of (item_here w bytes at) ≡ at
   unfolding item_at
   here_place = item_place w at (kind_of (tag_at (drop at bytes))) (first_met (head_tests w (drop at bytes))) (drop at bytes)
@@ -123,7 +111,7 @@ module _ (w : ℕ) (bytes : List ℕ) (at : ℕ) where
     where
       go : Dec (length bytes ≤ at) → items_from (suc bound) w at (drop at bytes) ≡ []
       go (yes h) = rw (drop_of_length-le bytes h)
-      go (no h) = absurd (never_end (item_here w bytes at) (next_of bytes at) (sym (standing_inside (omega arith)) ∙ e))
+      go (no h) = absurd (never_end (item_here w bytes at) (next_of bytes at) (sym (at_item w bytes at (omega arith)) ∙ e))
 
   pub items_broken : (bound place refusal : ℕ) → standing w bytes at ≡ broken place refusal
       → (items_from (suc bound) w at (drop at bytes) ≡ Item.broken place refusal ∷ []) × (place ≡ at)
@@ -131,14 +119,14 @@ module _ (w : ℕ) (bytes : List ℕ) (at : ℕ) where
   items_broken bound place refusal e =
       let inside : at < length bytes = inside_of (λ f. let z : ◌≡◌ {A = ℕ} 0 1 = cc in omega arith) in
       let item : item_here w bytes at ≡ Item.broken place refusal =
-      broken_of (item_here w bytes at) (next_of bytes at) place refusal (sym (standing_inside inside) ∙ e) in
+      broken_of (item_here w bytes at) (next_of bytes at) place refusal (sym (at_item w bytes at inside) ∙ e) in
       (unroll bound inside ∙ rw item, sym (ap place_of item) ∙ here_place)
 
   field_here : (kind : Kind) (numbers : List ℕ) (next : ℕ) → standing w bytes at ≡ field kind numbers next
       → (at < length bytes) × (item_here w bytes at ≡ Item.field at kind numbers) × (next_of bytes at ≡ next)
   field_here kind numbers next e =
       let inside : at < length bytes = inside_of (λ f. let z : ◌≡◌ {A = ℕ} 0 1 = cc in omega arith) in
-      let found = field_of (item_here w bytes at) (next_of bytes at) kind numbers next (sym (standing_inside inside) ∙ e) in
+      let found = field_of (item_here w bytes at) (next_of bytes at) kind numbers next (sym (at_item w bytes at inside) ∙ e) in
       (inside, found.0 ∙ ap (λ (place : ℕ). Item.field place kind numbers) here_place, found.1)
 
   pub items_field : (bound : ℕ) (kind : Kind) (numbers : List ℕ) (next : ℕ) → standing w bytes at ≡ field kind numbers next

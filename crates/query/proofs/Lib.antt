@@ -1,4 +1,3 @@
 -- Laws of the paper's fields, bottom to top: each file uses only those above it.
-pub mod Bytes
 pub mod Heads
 pub mod Laws

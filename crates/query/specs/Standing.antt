@@ -1,12 +1,14 @@
 -- What stands at a place of a query, on the paper's lists, and how the code's enums are read as the same: the words of the decoder's contract.
 -- Assumes nothing.
-use Rattle.std.specs.Prelude.{ℕ, ◌+◌, ◌≡◌, cond, List, [], ◌∷◌, ltb, length, drop}
-use Rattle.std.proofs.Math.Option.{some}
-use Rattle.paper.specs.Fields.{Kind, Item, kind_of, parts, cut, length_at, item_at}
+use Rattle.std.specs.Prelude.{ℕ, ◌+◌, ◌≡◌, cond, List, [], ◌∷◌, ltb, length, drop, Option, Some, None, Result, Ok, Err}
+use Rattle.std.proofs.Math.Option as Math
+use Rattle.paper.specs.Fields.{Kind, Item, parts, cut, length_at, item_at}
+use Rattle.paper.specs.Reasons.{number_of}
+use Rattle.paper.specs.declared.Reason.{Reason}
+use Rattle.paper.specs.declared.Refusal.{Refusal}
+use Rattle.query.specs.declared.Kind as Code
 use Rattle.query.specs.declared.Field.{Field}
 use Rattle.query.specs.declared.Field.TheVariants.{FreeBase, FreeBoolean, Variable, Write, Conditional, Read, Equality, Fixed}
-use Rattle.query.specs.declared.Decoded.{Decoded}
-use Rattle.query.specs.declared.Decoded.TheVariants.{Next, End, Refused}
 
 -- What stands at a place of the bytes: their end, a refusal, or a field with its parts' numbers and the next place
 pub data Standing : Type 0 where
@@ -24,6 +26,25 @@ standing w bytes at =
     cond (ltb at (length bytes)) (of_item (item_at w at (drop at bytes)) (at + (3 + length_at (drop at bytes)))) end
 
 -- The code's enums, read in the paper's words
+abbrev pub paper_kind : Code.Kind → Kind
+paper_kind Code.TheVariants.FreeBase = Kind.free_base
+paper_kind Code.TheVariants.FreeBoolean = Kind.free_boolean
+paper_kind Code.TheVariants.Variable = Kind.variable
+paper_kind Code.TheVariants.Write = Kind.write
+paper_kind Code.TheVariants.Conditional = Kind.conditional
+paper_kind Code.TheVariants.Read = Kind.read
+paper_kind Code.TheVariants.Equality = Kind.equality
+paper_kind Code.TheVariants.Fixed = Kind.fixed
+
+abbrev pub found_kind : Option Code.Kind → Math.Option Kind
+found_kind None = Math.none
+found_kind (Some kind) = Math.some (paper_kind kind)
+
+-- 0 says that no test refuses
+abbrev pub refusal_of : Result Code.Kind Reason → ℕ
+refusal_of (Ok kind) = 0
+refusal_of (Err reason) = number_of reason
+
 abbrev pub kind_of_field : Field → Kind
 kind_of_field (FreeBase value) = Kind.free_base
 kind_of_field (FreeBoolean truth) = Kind.free_boolean
@@ -44,12 +65,12 @@ numbers_of (Read p) = p.from ∷ p.index ∷ p.value ∷ []
 numbers_of (Equality p) = p.left ∷ p.right ∷ p.truth ∷ p.left_witness ∷ p.right_witness ∷ []
 numbers_of (Fixed value) = value ∷ []
 
-abbrev pub standing_of : Decoded → Standing
-standing_of (Next f next) = field (kind_of_field f) (numbers_of f) next
-standing_of End = end
-standing_of (Refused refusal) = broken refusal.offset refusal.number
+abbrev pub standing_of : Result (Option (Field × ℕ)) Refusal → Standing
+standing_of (Ok None) = end
+standing_of (Ok (Some (f, next))) = field (kind_of_field f) (numbers_of f) next
+standing_of (Err refusal) = broken refusal.offset (number_of refusal.reason)
 
--- A field of the tag's kind, with the numbers that the bytes of its value hold
-pub record Carries (w tag : ℕ) (bytes : List ℕ) (f : Field) : Type 0 where
-  pub kind : kind_of tag ≡ some (kind_of_field f)
-  pub numbers : numbers_of f ≡ cut w (parts (kind_of_field f)) bytes
+-- A field of a kind, with the numbers that the bytes of its value hold
+pub record Carries (w : ℕ) (kind : Code.Kind) (bytes : List ℕ) (f : Field) : Type 0 where
+  pub same_kind : kind_of_field f ≡ paper_kind kind
+  pub numbers : numbers_of f ≡ cut w (parts (paper_kind kind)) bytes

@@ -6,7 +6,7 @@ pub mod Less
 pub mod Turns
 pub mod Spreading
 pub mod Rows
-pub mod Parts
+pub mod Marking
 pub mod Values
 pub mod Links
 pub mod Paper

@@ -20,10 +20,13 @@ use Rattle.meaning.proofs.Lists.{range_length}
 use Rattle.meaning.proofs.Built.{are_bytes}
 use Rattle.meaning.proofs.Accepted.{accepted}
 use Rattle.meaning.proofs.Sources.{sources_bound}
-use Rattle.terms.specs.Tables.{Tables, source_in, edges_in}
+use Rattle.terms.specs.declared.Tables.{Tables}
+use Rattle.terms.specs.Tables.{source_in, edges_in}
 use Rattle.faults.specs.Faults.{count_in}
 use Rattle.terms.specs.Holds.{Holds}
 use Rattle.terms.specs.Graph.{Each, SourceWithin, EdgeWithin, Graphed}
+use Rattle.std.specs.Prelude.{Result, Ok}
+use Rattle.paper.specs.declared.Refusal.{Refusal}
 use Rattle.terms.specs.Loads.{Loads, loaded_as}
 use Rattle.terms.proofs.Ways.{accepted_graph}
 use Rattle.reach.specs.Reached.{opens_in, sources_in, reached_in, bit, max_rows, origin_at, value_at, assigned_at, RowOf, pairs_of}
@@ -153,10 +156,10 @@ module _ {query : Query} {t : Tables} (held : Holds query t) (graph : Graphed qu
           ∙ count_same (reached_in (opens_in t) t.counts.arrays (value_at (sources_in t) k) (origin_at (sources_in t) k)) (reaches query.terms (assigned query.guess) (source_at t k)) 0 t.counts.arrays (λ a low high. reaches_same k below a)
           ∙ ap (λ (n : ℕ). count (reaches query.terms (assigned query.guess) (source_at t k)) (range 0 n)) (sym (held.counts.given_as array))
 
--- what a caller has of a load that ends in refusal 0
-module _ {bytes : List ℕ} {refusal offset : ℕ} {t : Tables} (loads : Loads bytes refusal offset t) (none_number : refusal ≡ 0) where
+-- what a caller has of a load that is accepted
+module _ {A : Type 0} {bytes : List ℕ} {result : Result A Refusal} {t : Tables} (loads : Loads bytes result t) {value : A} (accepts : result ≡ Ok value) where
   accepted_is : load 32 bytes ≡ Loaded.accepted loads.query
-  accepted_is = sym loads.loaded ∙ ap (λ (n : ℕ). loaded_as n offset loads.query) none_number
+  accepted_is = sym loads.loaded ∙ ap (λ (r : Result A Refusal). loaded_as r loads.query) accepts
 
   pub has_graph : ((i : ℕ) → get_or bytes i 0 < 256) → Graphed loads.query t
   has_graph small = accepted_graph bytes (are_bytes bytes small) accepted_is loads.holds

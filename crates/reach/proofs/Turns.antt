@@ -13,13 +13,12 @@ use Rattle.paper.specs.Lists.{◌∈◌, concat_map}
 use Rattle.paper.specs.Edges.{Edge}
 use Rattle.paper.specs.Reach.{Joins}
 use Rattle.terms.specs.Tables.{edges_of, edges_in}
-use Rattle.terms.specs.declared.graph.Way.{Way}
-use Rattle.terms.specs.Graph.{shut_to, open_in, may_open, guard_of, way_edges, Each}
+use Rattle.terms.specs.Graph.{shut_to, open_in, may_open, Each}
 use Rattle.terms.proofs.Ways.{written, shut_write, shut_none, may_write, may_open_lem}
 use Rattle.reach.specs.Reached.{bit}
 use Rattle.reach.specs.Steps.{Joined, Adjacent, EndsBelow, Lent, with_edge, without_edge, edges_at, may_at, shut_at, Apart, Gathered, RowTurned, Turning, Turnable}
 use Rattle.reach.proofs.Less.{less_is, less_keeps, less_small, less_long}
-use Rattle.reach.proofs.Words.{way_none, way_edge, way_shut, way_open, in_row, row_in, edge_keeps, edge_here, edge_is, edge_small, edge_length}
+use Rattle.reach.proofs.Words.{row_none, row_one, in_row, row_in, edge_keeps, edge_here, edge_is, edge_small, edge_length}
 
 -- what a single edge joins
 pub of_one : (edge : Edge) (a b : ℕ) → Joined (edge ∷ []) a b → Joins edge a b
@@ -180,11 +179,9 @@ module _ (after may : ℕ → List Edge) (shut : ℕ → Bool) (count k : ℕ) (
         inr (less.0, λ joined. absurd (less.1 (of_one edge a b (subst (λ (es : List Edge). Joined es a b) one joined)))))
 
 -- a write's row that is lent ends at array terms
-pub write_ends : {rows : List ℕ} {count : ℕ} → Lent rows count 48 → (k : ℕ) → k < count → get_or rows k 0 / 67108864 ≡ 0 → EndsBelow 48 (written (get_or rows k 0))
+pub write_ends : (row : ℕ) → Each (EndsBelow 48) (edges_in row) → row / 67108864 ≡ 0 → EndsBelow 48 (written row)
 unfolding edges_in
-write_ends {rows} lent k given kind =
-    let row = get_or rows k 0 in
-    (subst (λ (guard : ℕ). Each (EndsBelow 48) (edges_of (row % 64) (row / 64 % 64) (row / 4096 % 64) (row / 262144 % 256) guard)) kind (lent.ends k given)).0
+write_ends row ends kind = (subst (λ (guard : ℕ). Each (EndsBelow 48) (edges_of (row % 64) (row / 64 % 64) (row / 4096 % 64) (row / 262144 % 256) guard)) kind ends).0
 
 -- a row of the lent ones, as the code turns it
 module _ (values truths rows : List ℕ) (count before x k : ℕ) (lent : Lent rows count 48) (given : k < count) (apart : Apart (may_at truths rows) count) (words new : List ℕ)
@@ -218,7 +215,7 @@ module _ (values truths rows : List ℕ) (count before x k : ℕ) (lent : Lent r
       one y shut = may_write truths row (shut_write values truths row y shut)
 
       ends : (y : ℕ) → shut_to values y row ≡ true → EndsBelow 48 (written row)
-      ends y shut = write_ends lent k given (shut_write values truths row y shut)
+      ends y shut = write_ends row (lent.ends k given) (shut_write values truths row y shut)
 
       go : (shut opened : Bool) → shut_to values x row ≡ shut → shut_to values before row ≡ opened
           → new ≡ cond shut (without_edge (row % 64) (row / 64 % 64) words) (cond opened (with_edge (row % 64) (row / 64 % 64) words) words) → Next new
@@ -230,24 +227,24 @@ module _ (values truths rows : List ℕ) (count before x k : ℕ) (lent : Lent r
           subst Next (sym same) (turn_same (edges_at values truths rows x) (may_at truths rows) (shut_at values rows before) count k words turning given was (may_open_lem values truths row x unshut))
 
 -- one row more is gathered
-module _ (truths rows : List ℕ) (k again : ℕ) (words : List ℕ) (known : Gathered truths rows k words again) (inside : k < length rows) (way : Way) (is : way_edges way ≡ may_open truths (get_or rows k 0)) where
-  pub gathered_shut : way.open ≡ false → Gathered truths rows (k + 1) words again
-  gathered_shut shut =
+module _ (truths rows : List ℕ) (k : ℕ) (again : Bool) (words : List ℕ) (known : Gathered truths rows k words again) (inside : k < length rows) where
+  pub gathered_none : [] ≡ may_open truths (get_or rows k 0) → Gathered truths rows (k + 1) words again
+  gathered_none is =
       record {
-        adjacent = way_shut [] truths 1 rows k words known.adjacent inside way is shut;
-        apart = λ none. apart_shut (may_at truths rows) k (known.apart none) (sym is ∙ way_none way shut);
+        adjacent = row_none (may_open truths) rows k words known.adjacent inside is;
+        apart = λ none. apart_shut (may_at truths rows) k (known.apart none) (sym is);
       }
 
-  module _ (lies_open : way.open ≡ true) (ends : Each (EndsBelow 48) (edges_in (get_or rows k 0))) where
-    alone_yet : bit (get_or words way.left 0) way.right ≡ 0 → (i : ℕ) → i < k → Joined (may_at truths rows i) way.left way.right → ⊥
-    alone_yet none i below joined =
-        omega (arith, none, known.adjacent.complete way.left way.right (joined.0, row_in (may_open truths) k rows i below (omega arith) joined.1, joined.2))
-
-    pub gathered_open : Gathered truths rows (k + 1) (with_edge way.left way.right words) (again + bit (get_or words way.left 0) way.right)
-    gathered_open =
-        record {
-          adjacent = way_open [] truths 1 rows k words known.adjacent inside way is lies_open ends;
-          apart = λ none.
-              apart_open (may_at truths rows) k (known.apart (omega arith)) (record { left = way.left; right = way.right; guard = guard_of way.tag way.number })
-              (sym is ∙ way_edge way lies_open) (alone_yet (omega arith));
-        }
+  -- an edge that is put joins what an earlier one joins, if its bit was there
+  pub gathered_one : (edge : Edge) → edge ∷ [] ≡ may_open truths (get_or rows k 0) → EndsBelow 48 edge
+      → (found : Bool) → (found ≡ false → (again ≡ false) × (bit (get_or words edge.left 0) edge.right ≡ 0))
+      → Gathered truths rows (k + 1) (with_edge edge.left edge.right words) found
+  gathered_one edge is ends found none_found =
+      record {
+        adjacent = row_one (may_open truths) rows k words known.adjacent inside edge is ends;
+        apart = λ none. apart_open (may_at truths rows) k (known.apart (none_found none).0) edge (sym is) (alone_yet (none_found none).1);
+      }
+    where
+      alone_yet : bit (get_or words edge.left 0) edge.right ≡ 0 → (i : ℕ) → i < k → Joined (may_at truths rows i) edge.left edge.right → ⊥
+      alone_yet none i below joined =
+          omega (arith, none, known.adjacent.complete edge.left edge.right (joined.0, row_in (may_open truths) k rows i below (omega arith) joined.1, joined.2))

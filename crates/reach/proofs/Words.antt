@@ -1,5 +1,6 @@
 -- Adjacency words of a list of edges: what one more edge puts into them.
 -- Assumes nothing.
+use Rattle.std.proofs.Common.{Option, Some, None}
 use Prim.Native.Nat.{ℕ, zero, suc, ◌+◌, ◌/◌, ◌%◌, ◌^◌, ◌<◌, ◌≤◌}
 use native.Mathlib.Decide.{ℕ_discrete}
 use native.Mathlib.Numerals.{add-one}
@@ -14,6 +15,7 @@ use lib.Dec.{eqb}
 use lib.ListN.{length, get_or, take, length-set, replicate}
 use lib.Pow.{pow-lt, pow_pos}
 use lib.Seq.{get_or-set_same, get_or-set_other, take-suc}
+use Rattle.std.proofs.lemmas.List.{get_or-take, length-take-le}
 use Rattle.paper.specs.Lists.{◌∈◌, concat_map}
 use Rattle.paper.specs.Edges.{Guard, Edge}
 use Rattle.paper.specs.Reach.{Joins}
@@ -22,8 +24,8 @@ use Rattle.reach.specs.Reached.{open_to, bit, Ends}
 use Rattle.reach.specs.Steps.{Joined, Adjacent, EndsBelow, Lent, with_bit, with_edge}
 use Rattle.reach.proofs.Bits.{bit_zero, or_left, or_right, or_either, pow_bit, pow_other}
 use Rattle.terms.specs.Tables.{edges_of, edges_in}
-use Rattle.terms.specs.declared.graph.Way.{Way}
-use Rattle.terms.specs.Graph.{open_of, open_in, guard_of, way_edges, Each}
+use Rattle.terms.specs.declared.graph.Edge.{Edge as FoundEdge}
+use Rattle.terms.specs.Graph.{open_of, open_in, edges_found, Each}
 
 -- one bit more
 module _ (words : List ℕ) (a b : ℕ) (inside : a < length words) where
@@ -150,8 +152,8 @@ no_edges =
 
 -- the open edge of a row is one of its edges
 either_way : (P : Edge → Type 0) (test : Bool) (one other : List Edge) → Each P one → Each P other → Each P (cond test one other)
-either_way P true one other first second = first
-either_way P false one other first second = second
+either_way P true _ _ first second = first
+either_way P false _ _ first second = second
 
 open_of_each : (P : Edge → Type 0) (values truths : List ℕ) (x left right other number guard : ℕ) → Each P (edges_of left right other number guard) → Each P (open_of values truths x left right other number guard)
 open_of_each P values truths x left right other number zero each =
@@ -173,34 +175,22 @@ rows_more f rows k inside =
     ∙ concat_map_append f (take k rows) (get_or rows k 0 ∷ [])
     ∙ ap (λ (new : List Edge). concat_map f (take k rows) ++ new) (append-nil (f (get_or rows k 0)))
 
--- what a way says
-module _ (way : Way) where
-  pub way_none : way.open ≡ false → way_edges way ≡ []
-  way_none shut = ap (λ (b : Bool). cond b (record { left = way.left; right = way.right; guard = guard_of way.tag way.number } ∷ []) []) shut
+-- no edge is found
+pub found_none : (found : Option FoundEdge) → ((edge : FoundEdge) → found ≡ Some edge → ⊥) → edges_found found ≡ []
+found_none (Some edge) none = absurd (none edge refl)
+found_none None none = refl
 
-  pub way_edge : way.open ≡ true → way_edges way ≡ record { left = way.left; right = way.right; guard = guard_of way.tag way.number } ∷ []
-  way_edge lies_open = ap (λ (b : Bool). cond b (record { left = way.left; right = way.right; guard = guard_of way.tag way.number } ∷ []) []) lies_open
+-- one row more: what it joins is put
+module _ (f : ℕ → List Edge) (rows : List ℕ) (k : ℕ) (words : List ℕ) (known : Adjacent (concat_map f (take k rows)) words) (inside : k < length rows) where
+  more : (new : List Edge) → new ≡ f (get_or rows k 0) → {after : List ℕ} → Adjacent (concat_map f (take k rows) ++ new) after → Adjacent (concat_map f (take (k + 1) rows)) after
+  more new is {after} adjacent =
+      subst (λ (es : List Edge). Adjacent es after) (ap (λ (last : List Edge). concat_map f (take k rows) ++ last) is ∙ sym (rows_more f rows k inside)) adjacent
 
--- the ends of a way that is open are array terms
-pub way_ends : (values truths : List ℕ) (x row : ℕ) (way : Way) → way_edges way ≡ open_in values truths x row → way.open ≡ true → Each (EndsBelow 48) (edges_in row) → (way.left < 48) × (way.right < 48)
-way_ends values truths x row way is lies_open ends = (subst (Each (EndsBelow 48)) (sym is ∙ way_edge way lies_open) (open_each (EndsBelow 48) values truths x row ends)).0
+  pub row_none : [] ≡ f (get_or rows k 0) → Adjacent (concat_map f (take (k + 1) rows)) words
+  row_none is = more [] is (none_more known)
 
--- one turn: what the row's way says is put, or nothing is
-module _ (values truths : List ℕ) (x : ℕ) (rows : List ℕ) (k : ℕ) (words : List ℕ)
-    (known : Adjacent (concat_map (open_in values truths x) (take k rows)) words) (inside : k < length rows) (way : Way) (is : way_edges way ≡ open_in values truths x (get_or rows k 0)) where
-  more : (new : List Edge) → way_edges way ≡ new → {after : List ℕ} → Adjacent (concat_map (open_in values truths x) (take k rows) ++ new) after → Adjacent (concat_map (open_in values truths x) (take (k + 1) rows)) after
-  more new same {after} adjacent =
-      subst (λ (es : List Edge). Adjacent es after) (ap (λ (last : List Edge). concat_map (open_in values truths x) (take k rows) ++ last) (sym same ∙ is) ∙ sym (rows_more (open_in values truths x) rows k inside)) adjacent
-
-  pub way_shut : way.open ≡ false → Adjacent (concat_map (open_in values truths x) (take (k + 1) rows)) words
-  way_shut shut = more [] (way_none way shut) (none_more known)
-
-  module _ (lies_open : way.open ≡ true) (ends : Each (EndsBelow 48) (edges_in (get_or rows k 0))) where
-    pub way_open : Adjacent (concat_map (open_in values truths x) (take (k + 1) rows)) (with_edge way.left way.right words)
-    way_open =
-        let edge : Edge = record { left = way.left; right = way.right; guard = guard_of way.tag way.number } in
-        let inside_ends = way_ends values truths x (get_or rows k 0) way is lies_open ends in
-        more (edge ∷ []) (way_edge way lies_open) (one_more known edge inside_ends.0 inside_ends.1)
+  pub row_one : (edge : Edge) → edge ∷ [] ≡ f (get_or rows k 0) → EndsBelow 48 edge → Adjacent (concat_map f (take (k + 1) rows)) (with_edge edge.left edge.right words)
+  row_one edge is ends = more (edge ∷ []) is (one_more known edge ends.0 ends.1)
 
 -- what holds of each of a list holds of whatever is in it
 pub in_each : {A : Type 0} (P : A → Type 0) (xs : List A) {x : A} → Each P xs → x ∈ xs → P x
@@ -248,3 +238,25 @@ module _ {rows : List ℕ} {count n : ℕ} (lent : Lent rows count n) where
         few = lent.few;
         ends = λ k below. each_within (EndsBelow n) (EndsBelow 48) (λ edge ends. (omega (arith, ends.0, lent.arrays), omega (arith, ends.1, lent.arrays))) (edges_in (get_or rows k 0)) (lent.ends k below);
       }
+
+  -- the row that a walk over the lent ones is at
+  module _ {k : ℕ} (inside : k < length (take count rows)) where
+    pub lent_given : k < count
+    lent_given = omega (arith, length-take-le count rows (omega (arith, lent.few, lent.long)))
+
+    pub lent_inside : k < length rows
+    lent_inside = omega (arith, lent_given, lent.few, lent.long)
+
+    pub lent_row : get_or (take count rows) k 0 ≡ get_or rows k 0
+    lent_row = get_or-take count rows k 0 lent_given
+
+    pub lent_row_ends : Each (EndsBelow n) (edges_in (get_or (take count rows) k 0))
+    lent_row_ends = rw lent_row (lent.ends k lent_given)
+
+    -- the ends of an edge that is found in it are array terms
+    pub lent_found : (values truths : List ℕ) (x : ℕ) (edge : Edge) → edge ∷ [] ≡ open_in values truths x (get_or (take count rows) k 0) → EndsBelow n edge
+    lent_found values truths x edge is = (subst (Each (EndsBelow n)) (sym is) (open_each (EndsBelow n) values truths x (get_or (take count rows) k 0) lent_row_ends)).0
+
+  -- and where it ends
+  pub lent_end : {k : ℕ} → k ≤ length (take count rows) → length (take count rows) ≤ k → k ≡ count
+  lent_end {k} upto past = omega (arith, length-take-le count rows (omega (arith, lent.few, lent.long)))

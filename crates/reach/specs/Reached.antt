@@ -1,13 +1,14 @@
 -- 01, Sources, edges, reach, over the open edges and the sources that the lent rows say: what a row, a pair count and a link are to be.
 -- Assumes nothing.
-use Rattle.std.specs.Prelude.{ℕ, ◌+◌, ◌*◌, ◌/◌, ◌%◌, ◌^◌, ◌<◌, ◌≤◌, ◌≡◌, Bool, cond, List, [], ◌∷◌, map, get_or, take}
+use Rattle.std.specs.Prelude.{ℕ, ◌+◌, ◌*◌, ◌/◌, ◌%◌, ◌^◌, ◌<◌, ◌≤◌, ◌≡◌, Bool, cond, List, map, get_or, take}
 use Rattle.std.proofs.Math.Option.{none}
 use Rattle.paper.specs.Sizes.{max_arrays, max_sources}
 use Rattle.paper.specs.Lists.{◌∈◌, is_some, count, sum, range, concat_map}
 use Rattle.paper.specs.Edges.{Edge}
 use Rattle.paper.specs.Reach.{near, step_cost}
-use Rattle.terms.specs.Tables.{Tables}
+use Rattle.terms.specs.declared.Tables.{Tables}
 use Rattle.terms.specs.Graph.{open_in}
+use Rattle.reach.specs.declared.marks.Mark.{Mark}
 
 -- the edges open to each index value
 abbrev pub Edges : Type 0
@@ -45,12 +46,19 @@ bit row a = row / 2 ^ a % 2
 abbrev pub max_rows : ℕ
 max_rows = 302
 
--- the rows that a table of parts says: three numbers of sixteen bits to a row, the lowest first, and row after row
-unfoldable pub rows_in : (parts : List ℕ) → List ℕ
-rows_in [] = []
-rows_in (low ∷ []) = []
-rows_in (low ∷ middle ∷ []) = []
-rows_in (low ∷ middle ∷ high ∷ parts) = (low + middle * 65536 + high * 4294967296) ∷ rows_in parts
+-- the row of a mark: three numbers of sixteen bits, the lowest first
+abbrev pub row_of : Mark → ℕ
+row_of mark = mark.low + mark.middle * 65536 + mark.high * 4294967296
+
+-- the rows of the marks, the links, and which sources are known to conflict with nothing
+abbrev pub rows_in : List Mark → List ℕ
+rows_in marks = map row_of marks
+
+abbrev pub links_in : List Mark → List ℕ
+links_in marks = map (λ mark. mark.next) marks
+
+abbrev pub clear_in : List Mark → List Bool
+clear_in marks = map (λ mark. mark.clear) marks
 
 -- the origin, the index value and the assigned value of source k
 abbrev pub origin_at : Sources → ℕ → ℕ

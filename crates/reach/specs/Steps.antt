@@ -71,9 +71,9 @@ abbrev pub Apart : (may : ℕ → List Edge) (count : ℕ) → Type 0
 Apart may count = (i j a b : ℕ) → i < j → j < count → Joined (may i) a b → Joined (may j) a b → ⊥
 
 -- the words of all that may be open, and whether two rows may join the same
-pub record Gathered (truths rows : List ℕ) (count : ℕ) (words : List ℕ) (again : ℕ) : Type 0 where
+pub record Gathered (truths rows : List ℕ) (count : ℕ) (words : List ℕ) (again : Bool) : Type 0 where
   pub adjacent : Adjacent (concat_map (may_open truths) (take count rows)) words
-  pub apart : again ≡ 0 → Apart (may_at truths rows) count
+  pub apart : again ≡ false → Apart (may_at truths rows) count
 
 -- A row on the turn: a write's that is shut is taken out, one that was shut is put, and any other left
 abbrev pub RowTurned : (values : List ℕ) (before x row : ℕ) (words₀ words : List ℕ) → Type 0

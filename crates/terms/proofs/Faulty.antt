@@ -16,7 +16,7 @@ use Rattle.query.specs.Standing.{kind_of_field, numbers_of}
 use Rattle.query.specs.declared.EqualityParts.{EqualityParts}
 use Rattle.query.specs.declared.Field.{Field}
 use Rattle.query.specs.declared.Field.TheVariants.{FreeBase, FreeBoolean, Variable, Write, Conditional, Read, Equality, Fixed}
-use Rattle.terms.specs.Tables.{Tables}
+use Rattle.terms.specs.declared.Tables.{Tables}
 use Rattle.faults.specs.Faults.{count_in, bad_witnesses_by, equal_witnesses_by, of_equality_field, truths_of, fault_by}
 use Rattle.terms.specs.Holds.{Holds}
 use Rattle.terms.proofs.Columns.{value_at_lem}

@@ -15,7 +15,8 @@ use Rattle.paper.specs.Edges.{sources, edges}
 use Rattle.query.specs.Standing.{kind_of_field, numbers_of}
 use Rattle.query.specs.declared.Field.{Field}
 use Rattle.query.specs.declared.Field.TheVariants.{FreeBase, FreeBoolean, Variable, Write, Conditional, Read, Equality, Fixed}
-use Rattle.terms.specs.Tables.{Tables, no_read, fixed_mark, read_row, source_row, edge_row, edges_in, put_in, Room}
+use Rattle.terms.specs.declared.Tables.{Tables}
+use Rattle.terms.specs.Tables.{no_read, fixed_mark, read_row, source_row, edge_row, edges_in, put_in, Room}
 use Rattle.faults.specs.Faults.{count_in, fault_by}
 use Rattle.terms.specs.Holds.{Holds, Column, as_source}
 use Rattle.terms.proofs.Columns.{kept, pushed, sources_more, edges_more, base_more, boolean_more, array_more, no_read_more, read_more}

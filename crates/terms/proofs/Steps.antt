@@ -15,7 +15,6 @@ use Rattle.meaning.proofs.Built.{items_enough, load_cases, load_field}
 use Rattle.meaning.proofs.Refusals.{refusals}
 use Rattle.query.specs.Standing.{end, broken, field, standing}
 use Rattle.query.proofs.Laws.{items_end, items_broken, items_field}
-use Rattle.terms.specs.Loads.{loaded_as}
 
 -- what loading the bytes comes to is what loading the rest from a place on comes to, after this query
 abbrev pub Left : List ℕ → (at : ℕ) → Query → Type 0
@@ -41,33 +40,23 @@ module _ (bytes : List ℕ) (at : ℕ) (query : Query) (left : Left bytes at que
   pub left_end : standing 32 bytes at ≡ end → load 32 bytes ≡ Loaded.accepted query
   left_end stands = left.2 ∙ ap (λ (items : List Item). load_items items query) (items_end 32 bytes at left.0 stands)
 
-  -- a refusal is never 0, so that it is read as one
-  refusal_read : (refusal place : ℕ) → load 32 bytes ≡ Loaded.refused refusal place → (any_query : Query) → loaded_as refusal place any_query ≡ load 32 bytes
-  refusal_read zero place is any_query = absurd (go (refusals 32 bytes zero place is))
-    where
-      go : ((zero ≡ 1) × (place ≡ 0) × (4096 < length bytes)) ⊎ (((2 ≤ zero) × (zero ≤ 9)) × (place < length bytes) × (length bytes ≤ 4096)) → ⊥
-      go (inl (one, place_is, long)) = omega (arith, one)
-      go (inr (numbered, inside, short)) = omega (arith, numbered.0)
-  refusal_read (suc refusal) place is any_query = sym is
-
   -- a broken head refuses
-  pub left_broken : (place refusal : ℕ) → standing 32 bytes at ≡ broken place refusal → (any_query : Query) → loaded_as refusal place any_query ≡ load 32 bytes
-  left_broken place refusal stands any_query =
-      refusal_read refusal place (left.2 ∙ ap (λ (items : List Item). load_items items query) (items_broken 32 bytes at left.0 place refusal stands).0) any_query
+  pub left_broken : (place refusal : ℕ) → standing 32 bytes at ≡ broken place refusal → load 32 bytes ≡ Loaded.refused refusal place
+  left_broken place refusal stands = left.2 ∙ ap (λ (items : List Item). load_items items query) (items_broken 32 bytes at left.0 place refusal stands).0
 
   module _ (kind : Kind) (numbers : List ℕ) (next : ℕ) (stands : standing 32 bytes at ≡ field kind numbers next) where
     here : load 32 bytes ≡ load_items (Item.field at kind numbers ∷ items_from left.0 32 next (drop next bytes)) query
     here = left.2 ∙ ap (λ (items : List Item). load_items items query) (items_field 32 bytes at left.0 kind numbers next stands).0
 
     -- a fault refuses
-    pub left_fault : first_met (faults query kind numbers) ≢ 0 → (any_query : Query) → loaded_as (first_met (faults query kind numbers)) at any_query ≡ load 32 bytes
-    left_fault faulty any_query = go (load_field at kind numbers (items_from left.0 32 next (drop next bytes)) query)
+    pub left_fault : first_met (faults query kind numbers) ≢ 0 → load 32 bytes ≡ Loaded.refused (first_met (faults query kind numbers)) at
+    left_fault faulty = go (load_field at kind numbers (items_from left.0 32 next (drop next bytes)) query)
       where
         go : ((first_met (faults query kind numbers) ≡ 0) × (load_items (Item.field at kind numbers ∷ items_from left.0 32 next (drop next bytes)) query ≡ load_items (items_from left.0 32 next (drop next bytes)) (extend query kind numbers)))
             ⊎ ((first_met (faults query kind numbers) ≢ 0) × (load_items (Item.field at kind numbers ∷ items_from left.0 32 next (drop next bytes)) query ≡ Loaded.refused (first_met (faults query kind numbers)) at))
-            → loaded_as (first_met (faults query kind numbers)) at any_query ≡ load 32 bytes
+            → load 32 bytes ≡ Loaded.refused (first_met (faults query kind numbers)) at
         go (inl (none, is)) = absurd (faulty none)
-        go (inr (some_fault, is)) = refusal_read (first_met (faults query kind numbers)) at (here ∙ is) any_query
+        go (inr (some_fault, is)) = here ∙ is
 
     -- without one, what is left stands at the next place, which is further
     pub left_next : first_met (faults query kind numbers) ≡ 0 → Left bytes next (extend query kind numbers) × (at < next) × (next ≤ length bytes)

@@ -20,7 +20,8 @@ use Rattle.paper.specs.Edges.{source_of, sources, Guard, Edge, edge_of, edges, o
 use Rattle.meaning.proofs.Lists.{keep_append}
 use Rattle.meaning.proofs.Built.{AreBytes}
 use Rattle.meaning.proofs.Accepted.{Below, own_number, Accepted, accepted, below, own_below}
-use Rattle.terms.specs.Tables.{Tables, source_in, edges_of, edges_in}
+use Rattle.terms.specs.declared.Tables.{Tables}
+use Rattle.terms.specs.Tables.{source_in, edges_of, edges_in}
 use Rattle.faults.specs.Faults.{count_in}
 use Rattle.terms.specs.Holds.{Holds, as_source}
 use Rattle.terms.specs.Graph.{shut_to, open_of, open_in, may_open, Each, SourceWithin, EdgeWithin, Graphed}

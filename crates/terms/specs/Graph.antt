@@ -1,13 +1,16 @@
 -- The graph that the tables hold, for the layers above: rows of sources and edges name terms alone, and the guess is read through values and truths.
 -- Assumes nothing.
-use Rattle.std.specs.Prelude.{ℕ, zero, suc, ◌/◌, ◌%◌, ◌<◌, ◌≤◌, ◌≡◌, Bool, false, cond, List, [], ◌∷◌, map, eqb, get_or, take}
+use Rattle.std.specs.Prelude.{ℕ, zero, suc, ◌/◌, ◌%◌, ◌<◌, ◌≤◌, ◌≡◌, Bool, false, cond, List, [], ◌∷◌, map, eqb, get_or, take, Option, Some, None}
 use Rattle.paper.specs.Sizes.{max_sources, max_edges}
 use Rattle.paper.specs.Lists.{concat_map}
 use Rattle.paper.specs.Fields.{Series, base, boolean, array}
 use Rattle.paper.specs.Terms.{is_fixed, Query, assigned}
 use Rattle.paper.specs.Edges.{Source, index_number, sources, Guard, Edge, open_edges}
-use Rattle.terms.specs.declared.graph.Way.{Way}
-use Rattle.terms.specs.Tables.{Tables, fixed_in, source_in, edges_in}
+use Rattle.terms.specs.declared.graph.Guard.{Guard as Found}
+use Rattle.terms.specs.declared.graph.Guard.TheVariants.{Differ, IsTrue, IsFalse}
+use Rattle.terms.specs.declared.graph.Edge.{Edge as FoundEdge}
+use Rattle.terms.specs.declared.Tables.{Tables}
+use Rattle.terms.specs.Tables.{fixed_in, source_in, edges_in}
 use Rattle.faults.specs.Faults.{count_in}
 
 -- is the row a write's whose index has value x?
@@ -33,12 +36,18 @@ may_open truths row = open_in [] truths 1 row
 abbrev pub opened : Tables → (x : ℕ) → List Edge
 opened t x = concat_map (open_in t.values t.truths x) (take t.counts.edges t.edges)
 
--- what the code finds of a row: is it open, its ends, and the guard, by the tag of its literal (22 differ, 23 true, 24 false) and its number
-abbrev pub guard_of : (tag number : ℕ) → Guard
-guard_of tag number = cond (eqb tag 0x22) (Guard.differ number) (cond (eqb tag 0x23) (Guard.is_true number) (Guard.is_false number))
+-- what the code finds of a row: its edge, if it is open
+abbrev pub guard_found : Found → Guard
+guard_found (Differ index) = Guard.differ index
+guard_found (IsTrue m) = Guard.is_true m
+guard_found (IsFalse m) = Guard.is_false m
 
-abbrev pub way_edges : Way → List Edge
-way_edges way = cond way.open (record { left = way.left; right = way.right; guard = guard_of way.tag way.number } ∷ []) []
+abbrev pub edge_found : FoundEdge → Edge
+edge_found e = record { left = e.left; right = e.right; guard = guard_found e.guard }
+
+abbrev pub edges_found : Option FoundEdge → List Edge
+edges_found (Some e) = edge_found e ∷ []
+edges_found None = []
 
 -- a property of each of a list
 abbrev pub Each : {A : Type 0} → (A → Type 0) → List A → Type 0

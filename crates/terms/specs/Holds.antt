@@ -9,7 +9,8 @@ use Rattle.paper.specs.Terms.{Term, given, is_fixed, Query}
 use Rattle.paper.specs.Load.{witness_index}
 use Rattle.paper.specs.Edges.{Source, sources, edges}
 use Rattle.faults.specs.declared.Counts.{Counts}
-use Rattle.terms.specs.Tables.{Tables, fixed_in, source_in, edges_in}
+use Rattle.terms.specs.declared.Tables.{Tables}
+use Rattle.terms.specs.Tables.{fixed_in, source_in, edges_in}
 use Rattle.faults.specs.Faults.{count_in}
 
 -- the first n cells of a column of so many say this list, each cell a part of it

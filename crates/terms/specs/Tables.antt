@@ -6,25 +6,10 @@ use Rattle.paper.specs.Edges.{at, Source, Guard, Edge}
 use Rattle.query.specs.declared.Field.{Field}
 use Rattle.query.specs.declared.Field.TheVariants.{FreeBase, FreeBoolean, Variable, Write, Conditional, Read, Equality, Fixed}
 use Rattle.faults.specs.declared.Counts.{Counts}
-
-pub record Tables : Type 0 where
-  pub values : List ℕ
-  pub truths : List ℕ
-  pub reads : List ℕ
-  pub sources : List ℕ
-  pub edges : List ℕ
-  pub counts : Counts
+use Rattle.terms.specs.declared.Tables.{Tables}
 
 abbrev pub tables : (values truths reads sources edges : List ℕ) → Counts → Tables
 tables values truths reads sources edges counts = record { values = values; truths = truths; reads = reads; sources = sources; edges = edges; counts = counts }
-
--- the tables have their sizes
-pub record Sized (values truths reads sources edges : List ℕ) : Type 0 where
-  pub values_long : length values ≡ max_bases
-  pub truths_long : length truths ≡ max_booleans
-  pub reads_long : length reads ≡ max_bases
-  pub sources_long : length sources ≡ max_sources
-  pub edges_long : length edges ≡ max_edges
 
 -- the number that a row is packed into
 unfoldable pub read_row : (from index : ℕ) → ℕ
@@ -62,40 +47,38 @@ edges_of left right other number (suc (suc guard)) = record { left = left; right
 unfoldable pub edges_in : ℕ → List Edge
 edges_in row = edges_of (row % 64) (row / 64 % 64) (row / 4096 % 64) (row / 262144 % 256) (row / 67108864)
 
--- one base term more
-abbrev pub more_bases : Counts → Counts
-more_bases c = record { bases = c.bases + 1; booleans = c.booleans; arrays = c.arrays; sources = c.sources; edges = c.edges }
+-- one more of each: a base term, with its value and the read that gives it; a Boolean, with its truth; an array term; the row of a source; an edge's
+abbrev pub with_base : (value read : ℕ) → Tables → Tables
+with_base value read t =
+    record t {
+      values = set t.values t.counts.bases value;
+      reads = set t.reads t.counts.bases read;
+      counts = record t.counts { bases = t.counts.bases + 1 };
+    }
+
+abbrev pub with_boolean : (truth : ℕ) → Tables → Tables
+with_boolean truth t = record t { truths = set t.truths t.counts.booleans truth; counts = record t.counts { booleans = t.counts.booleans + 1 } }
+
+abbrev pub with_array : Tables → Tables
+with_array t = record t { counts = record t.counts { arrays = t.counts.arrays + 1 } }
+
+abbrev pub with_source : (row : ℕ) → Tables → Tables
+with_source row t = record t { sources = set t.sources t.counts.sources row; counts = record t.counts { sources = t.counts.sources + 1 } }
+
+abbrev pub with_edge : (row : ℕ) → Tables → Tables
+with_edge row t = record t { edges = set t.edges t.counts.edges row; counts = record t.counts { edges = t.counts.edges + 1 } }
 
 -- what an accepted field puts into the tables
 abbrev pub put_in : Field → Tables → Tables
-put_in (FreeBase value) t =
-    tables (set t.values t.counts.bases value) t.truths (set t.reads t.counts.bases no_read) t.sources t.edges (more_bases t.counts)
-put_in (FreeBoolean truth) t =
-    tables t.values (set t.truths t.counts.booleans truth) t.reads t.sources t.edges
-    (record { bases = t.counts.bases; booleans = t.counts.booleans + 1; arrays = t.counts.arrays; sources = t.counts.sources; edges = t.counts.edges })
-put_in Variable t =
-    tables t.values t.truths t.reads t.sources t.edges
-    (record { bases = t.counts.bases; booleans = t.counts.booleans; arrays = t.counts.arrays + 1; sources = t.counts.sources; edges = t.counts.edges })
+put_in (FreeBase value) t = with_base value no_read t
+put_in (FreeBoolean truth) t = with_boolean truth t
+put_in Variable t = with_array t
 put_in (Write p) t =
-    tables t.values t.truths t.reads
-    (set t.sources t.counts.sources (source_row t.counts.arrays p.index p.value))
-    (set t.edges t.counts.edges (edge_row t.counts.arrays p.beneath 0 p.index 0))
-    (record { bases = t.counts.bases; booleans = t.counts.booleans; arrays = t.counts.arrays + 1; sources = t.counts.sources + 1; edges = t.counts.edges + 1 })
-put_in (Conditional p) t =
-    tables t.values t.truths t.reads t.sources
-    (set t.edges t.counts.edges (edge_row t.counts.arrays p.if_true p.if_false p.chooser 1))
-    (record { bases = t.counts.bases; booleans = t.counts.booleans; arrays = t.counts.arrays + 1; sources = t.counts.sources; edges = t.counts.edges + 1 })
-put_in (Read p) t =
-    tables (set t.values t.counts.bases p.value) t.truths (set t.reads t.counts.bases (read_row p.from p.index))
-    (set t.sources t.counts.sources (source_row p.from p.index t.counts.bases))
-    t.edges
-    (record { bases = t.counts.bases + 1; booleans = t.counts.booleans; arrays = t.counts.arrays; sources = t.counts.sources + 1; edges = t.counts.edges })
-put_in (Equality p) t =
-    tables t.values (set t.truths t.counts.booleans p.truth) t.reads t.sources
-    (set t.edges t.counts.edges (edge_row p.left p.right 0 t.counts.booleans 2))
-    (record { bases = t.counts.bases; booleans = t.counts.booleans + 1; arrays = t.counts.arrays; sources = t.counts.sources; edges = t.counts.edges + 1 })
-put_in (Fixed value) t =
-    tables (set t.values t.counts.bases value) t.truths (set t.reads t.counts.bases fixed_mark) t.sources t.edges (more_bases t.counts)
+    with_array (with_edge (edge_row t.counts.arrays p.beneath 0 p.index 0) (with_source (source_row t.counts.arrays p.index p.value) t))
+put_in (Conditional p) t = with_array (with_edge (edge_row t.counts.arrays p.if_true p.if_false p.chooser 1) t)
+put_in (Read p) t = with_base p.value (read_row p.from p.index) (with_source (source_row p.from p.index t.counts.bases) t)
+put_in (Equality p) t = with_boolean p.truth (with_edge (edge_row p.left p.right 0 t.counts.booleans 2) t)
+put_in (Fixed value) t = with_base value fixed_mark t
 
 -- there is room for it
 abbrev pub Room : Field → Counts → Type 0

@@ -8,7 +8,8 @@ ghost use Rattle.meaning.proofs.Built.{AreBytes};
 ghost use Rattle.checker.specs.Reports.{CheckAllows, LookAllows, ListAllows, WriteAllows};
 ghost use Rattle.zunidelo.specs.Told.{CheckTells, LookTells, WriteTells};
 
-use checker::{Checked, Listed, Looked, Written};
+use checker::{Totals, Verdict};
+use paper::Refusal;
 
 fn many(query: &[u8]) -> usize
     ensures { result ≡ length query.now }
@@ -23,25 +24,30 @@ pub fn lent_bytes(query: &[u8]) -> usize
     many(query)
 }
 
-pub fn allowed_check(query: &[u8], answer: &mut [u8]) -> Checked
+pub fn allowed_check(query: &[u8], answer: &mut [u8]) -> Result<Verdict, Refusal>
     ensures { CheckAllows query.now answer.old answer.new result }
 {
     checker::check(query, answer)
 }
 
-pub fn allowed_lookup(query: &[u8], array: u64, index: u64) -> Looked
+pub fn allowed_lookup(query: &[u8], array: u64, index: u64) -> Result<u64, Refusal>
     ensures { LookAllows query.now array index result }
 {
     checker::lookup(query, array, index)
 }
 
-pub fn allowed_clauses(query: &[u8], numbers: &mut [i32]) -> Written
+pub fn allowed_clauses(query: &[u8], numbers: &mut [i32]) -> Result<Totals, Refusal>
     ensures { WriteAllows query.now numbers.old numbers.new result }
 {
     checker::clauses(query, numbers)
 }
 
-pub fn allowed_cells(query: &[u8], array: u64, indices: &mut [u64], contents: &mut [u64]) -> Listed
+pub fn allowed_cells(
+    query: &[u8],
+    array: u64,
+    indices: &mut [u64],
+    contents: &mut [u64],
+) -> Result<usize, Refusal>
     ensures { ListAllows query.now array indices.old indices.new contents.old contents.new result }
 {
     checker::cells(query, array, indices, contents)

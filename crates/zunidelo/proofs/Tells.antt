@@ -12,10 +12,7 @@ use lib.Dec.{eqb}
 use lib.IntN.{ℤ}
 use Rattle.paper.specs.Answers.{Verdict}
 use Rattle.paper.specs.Answers as Paper
-use Rattle.checker.specs.declared.Checked.{Checked}
-use Rattle.checker.specs.declared.Looked.{Looked}
-use Rattle.checker.specs.declared.Written.{Written}
-use Rattle.checker.specs.Reports.{report_of, CheckedAs, look_report_of, look_reported, write_report_of, WrittenAs}
+use Rattle.checker.specs.Reports.{Checked, Looked, Written, report_of, CheckedAs, look_report_of, look_reported, write_report_of, WrittenAs}
 use Rattle.checker.proofs.Told.{Over}
 use Rattle.zunidelo.specs.Told.{place, returned, unless_refused, check_numbers, look_numbers, write_numbers, CheckTold, LookTold, WriteTold}
 

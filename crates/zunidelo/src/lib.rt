@@ -4,9 +4,9 @@
 
 ghost use Rattle.zunidelo.specs.Told.{CheckTells, LookTells, WriteTells};
 
-use checker::{Checked, Looked, Written};
+use checker::Verdict;
 
-// What is returned beside a report: the verdict that the answer shows.
+// What is returned beside a report: the verdict that the answer shows, a number since that is what C is told.
 const CONSISTENT: u32 = 0;
 
 const CONFLICT: u32 = 1;
@@ -19,15 +19,15 @@ pub extern "C" fn zunidelo_check(query: &[u8], answer: &mut [u8], report: &mut [
     ensures { CheckTells query.now answer.old answer.new report.new result }
 {
     match checker::check(query, answer) {
-        Checked::Refused(refusal) => {
-            *report = [refusal.number as u64, refusal.offset as u64, 0, 0];
+        Err(refusal) => {
+            *report = [refusal.reason.number() as u64, refusal.offset as u64, 0, 0];
             REFUSED
         }
-        Checked::Consistent(pairs) => {
+        Ok(Verdict::Consistent { pairs }) => {
             *report = [0, 0, pairs as u64, 0];
             CONSISTENT
         }
-        Checked::Conflict(pairs, length) => {
+        Ok(Verdict::Conflict { pairs, length }) => {
             *report = [0, 0, pairs as u64, length as u64];
             CONFLICT
         }
@@ -45,11 +45,11 @@ pub extern "C" fn zunidelo_lookup(
     ensures { LookTells query.now array index report.new result }
 {
     match checker::lookup(query, array, index) {
-        Looked::Refused(refusal) => {
-            *report = [refusal.number as u64, refusal.offset as u64, 0, 0];
+        Err(refusal) => {
+            *report = [refusal.reason.number() as u64, refusal.offset as u64, 0, 0];
             REFUSED
         }
-        Looked::Value(value) => {
+        Ok(value) => {
             *report = [0, 0, value, 0];
             CONSISTENT
         }
@@ -62,11 +62,17 @@ pub extern "C" fn zunidelo_clauses(query: &[u8], numbers: &mut [i32], report: &m
     ensures { WriteTells query.now numbers.old numbers.new report.new result }
 {
     match checker::clauses(query, numbers) {
-        Written::Refused(refusal) => {
-            *report = [refusal.number as u64, refusal.offset as u64, 0, 0, 0];
+        Err(refusal) => {
+            *report = [
+                refusal.reason.number() as u64,
+                refusal.offset as u64,
+                0,
+                0,
+                0,
+            ];
             REFUSED
         }
-        Written::Clauses(totals) => {
+        Ok(totals) => {
             *report = [
                 0,
                 0,

@@ -1,13 +1,14 @@
 -- Each case of the answer reports what it is, and the answer is the paper's (Tells).
 -- Assumes nothing.
+use Rattle.std.proofs.Common.{Ok, ap, ◌∙◌}
 use Rattle.zunidelo.proofs.Tells.{check_tells}
 use Rattle.zunidelo.proofs.zunidelo_check.Goals as goal
 
-pub returns-in-Refused : goal.returns-in-Refused
-returns-in-Refused c = check_tells _ _ _ _ _ c.in-Refused.is c.check.ensures
+pub returns-in-Err : goal.returns-in-Err
+returns-in-Err c = rw c.number.ensures (check_tells _ _ _ _ _ c.in-Err.is c.check.ensures)
 
-pub returns-in-Consistent : goal.returns-in-Consistent
-returns-in-Consistent c = check_tells _ _ _ _ _ c.in-Consistent.is c.check.ensures
+pub returns-in-Ok-Consistent : goal.returns-in-Ok-Consistent
+returns-in-Ok-Consistent c = check_tells _ _ _ _ _ (c.in-Ok-Consistent.is ∙ ap Ok c.in-Ok-Consistent.field-0-is) c.check.ensures
 
-pub returns-in-Conflict : goal.returns-in-Conflict
-returns-in-Conflict c = check_tells _ _ _ _ _ c.in-Conflict.is c.check.ensures
+pub returns-in-Ok-Conflict : goal.returns-in-Ok-Conflict
+returns-in-Ok-Conflict c = check_tells _ _ _ _ _ (c.in-Ok-Conflict.is ∙ ap Ok c.in-Ok-Conflict.field-0-is) c.check.ensures

@@ -3,8 +3,8 @@
 use Rattle.zunidelo.proofs.Tells.{write_tells}
 use Rattle.zunidelo.proofs.zunidelo_clauses.Goals as goal
 
-pub returns-in-Refused : goal.returns-in-Refused
-returns-in-Refused c = write_tells _ _ _ _ _ c.in-Refused.is c.clauses.ensures
+pub returns-in-Err : goal.returns-in-Err
+returns-in-Err c = rw c.number.ensures (write_tells _ _ _ _ _ c.in-Err.is c.clauses.ensures)
 
-pub returns-in-Clauses : goal.returns-in-Clauses
-returns-in-Clauses c = write_tells _ _ _ _ _ c.in-Clauses.is c.clauses.ensures
+pub returns-in-Ok : goal.returns-in-Ok
+returns-in-Ok c = write_tells _ _ _ _ _ c.in-Ok.is c.clauses.ensures

@@ -3,8 +3,8 @@
 use Rattle.zunidelo.proofs.Tells.{look_tells}
 use Rattle.zunidelo.proofs.zunidelo_lookup.Goals as goal
 
-pub returns-in-Refused : goal.returns-in-Refused
-returns-in-Refused c = look_tells _ _ _ c.in-Refused.is c.lookup.ensures
+pub returns-in-Err : goal.returns-in-Err
+returns-in-Err c = rw c.number.ensures (look_tells _ _ _ c.in-Err.is c.lookup.ensures)
 
-pub returns-in-Value : goal.returns-in-Value
-returns-in-Value c = look_tells _ _ _ c.in-Value.is c.lookup.ensures
+pub returns-in-Ok : goal.returns-in-Ok
+returns-in-Ok c = look_tells _ _ _ c.in-Ok.is c.lookup.ensures

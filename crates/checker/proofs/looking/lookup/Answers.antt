@@ -1,16 +1,17 @@
 -- `checker::looking::lookup` meets its contract: a refused query by the loader's refusal, an accepted one by what is ruled on its tables.
 -- Assumes nothing.
+use Rattle.std.proofs.lemmas.Result.{err_from_is_err_and}
 use Rattle.front.proofs.Facts.{refused, judged}
 use Rattle.checker.proofs.Looks.{look_refused_lem}
 use Rattle.checker.proofs.looking.lookup.Goals as goal
 
-pub returns-then-number-ne0 : goal.returns-then-number-ne0
-returns-then-number-ne0 c = look_refused_lem _ _ _ _ _ c.if-number-ne0.true (refused c.judge-front.ensures c.if-number-ne0.true)
+pub returns-in_err-ruling : goal.returns-in_err-ruling
+returns-in_err-ruling c =
+    let p = err_from_is_err_and c.from_residual.result c.from_residual.ensures.1 in
+    rw (p.1, p.2) (look_refused_lem _ _ _ _ (refused c.judge.ensures c.in_err-ruling.was))
 
 pub look-requires : goal.look-requires
-look-requires c =
-    (_, (_, judged c.judge-front.ensures c.if-number-ne0.false))
+look-requires c = (_, judged c.judge.ensures c.in_ok-ruling.was)
 
 pub returns : goal.returns
-returns c =
-    c.look.ensures _ (_, judged c.judge-front.ensures c.if-number-ne0.false)
+returns c = c.look.ensures _ (judged c.judge.ensures c.in_ok-ruling.was)
