@@ -5,8 +5,10 @@
 ghost use Rattle.std.specs.Prelude.{◌≤◌};
 
 use checker::Verdict;
-use print::Page;
+use print::{PAGE, Page};
+use std::fmt::Display;
 use std::io::Read;
+use std::{fmt, str};
 
 // More than any query that is asked about.
 const QUERY: usize = 5000;
@@ -38,7 +40,9 @@ fn take<const N: usize>(input: &mut impl Read) -> [u8; N]
     bytes
 }
 
-fn take_two(input: &mut impl Read) -> usize {
+fn take_two(input: &mut impl Read) -> usize
+    ensures { result ≤ 65535 }
+{
     usize::from(u16::from_be_bytes(take(input)))
 }
 
@@ -46,12 +50,33 @@ fn take_eight(input: &mut impl Read) -> u64 {
     u64::from_be_bytes(take(input))
 }
 
+const DIGITS: &[u8; 16] = b"0123456789abcdef";
+
+// So many bytes are written as one text: `{:02x}` sets up a format for each.
+const AT_ONCE: usize = 32;
+
+// Bytes in hex.
+#[derive(Clone, Copy)]
+struct Hex<'a>(&'a [u8]);
+
+impl Display for Hex<'_> {
+    fn fmt<W: fmt::Write>(&self, f: &mut fmt::Formatter<W>) -> fmt::Result {
+        for bytes in self.0.chunks(AT_ONCE) {
+            let mut digits = [b' '; 2 * AT_ONCE];
+            for (two, byte) in digits.chunks_exact_mut(2).zip(bytes) {
+                two[0] = DIGITS[usize::from(byte / 16)];
+                two[1] = DIGITS[usize::from(byte % 16)];
+            }
+            let text = &digits[..(2 * bytes.len()).min(2 * AT_ONCE)];
+            f.write_str(str::from_utf8(text).unwrap_or(""))?;
+        }
+        Ok(())
+    }
+}
+
 // "then the buffer of that room in hex"
 fn put_bytes(page: &mut Page<'_, impl Print + Eprint>, bytes: &[u8]) {
-    for byte in bytes {
-        write!(page, "{byte:02x}");
-    }
-    writeln!(page);
+    writeln!(page, "{}", Hex(bytes));
 }
 
 fn put_numbers(page: &mut Page<'_, impl Print + Eprint>, numbers: &[i32]) {
@@ -91,22 +116,21 @@ fn answer_clauses(page: &mut Page<'_, impl Print + Eprint>, query: &[u8], number
     put_numbers(page, numbers);
 }
 
-// The answer's lines; none where more room is asked for than there is.
-fn answer(
-    page: &mut Page<'_, impl Print + Eprint>,
-    question: Question,
-    query: &[u8],
-) -> Option<()> {
+// The answer's lines; none where more room is asked for than there is. The lines of a verdict go out by themselves, as those of the verdict
+// program do, and the line that closes them after them.
+fn answer(rt: &(impl Print + Eprint), question: Question, query: &[u8]) -> Option<()> {
+    let mut bytes = [0u8; PAGE];
+    let mut page = Page::new(rt, &mut bytes);
     match question {
-        Question::Verdict => lines::verdict(page, query),
+        Question::Verdict => lines::verdict(rt, query),
         Question::Check { room } => {
             let mut bytes = [BYTE; BYTES];
-            answer_check(page, query, bytes.get_mut(..room)?);
+            answer_check(&mut page, query, bytes.get_mut(..room)?);
         }
-        Question::Lookup { array, index } => answer_lookup(page, query, array, index),
+        Question::Lookup { array, index } => answer_lookup(&mut page, query, array, index),
         Question::Clauses { room } => {
             let mut numbers = [NUMBER; NUMBERS];
-            answer_clauses(page, query, numbers.get_mut(..room)?);
+            answer_clauses(&mut page, query, numbers.get_mut(..room)?);
         }
     }
     // "then a line `.`"
@@ -140,7 +164,7 @@ fn take_one(rt: &(impl Print + Eprint), input: &mut impl Read) -> Option<()> {
     let length = take_two(input);
     let mut room = [0u8; QUERY];
     let query = print::fill(input, &mut room, length)?;
-    let _ = answer(&mut Page::new(rt), question, query);
+    let _ = answer(rt, question, query);
     Some(())
 }
 

@@ -18,7 +18,7 @@ fn conclude(tables: &Tables, ruling: Ruling, answer: &mut [u8]) -> Result<Verdic
     let Some((first, later)) = ruling.found else {
         return Ok(Verdict::Consistent { pairs });
     };
-    let mut literals = Literals::new();
+    let mut literals = Literals::EMPTY;
     pair_literals(tables, first, later, &mut literals);
     let length = lemma_length(literals.rows());
     if answer.len() < length {

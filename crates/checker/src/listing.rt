@@ -25,7 +25,7 @@ fn list(
     if tables.counts.arrays as u64 <= array {
         return Err(Refusal::whole(Reason::NoCell));
     }
-    let mut listed = Cells::new();
+    let mut listed = Cells::EMPTY;
     list_cells(tables, array as usize, &mut listed);
     let cells = listed.as_slice();
     if indices.len() < cells.len() || contents.len() < cells.len() {

@@ -17,7 +17,7 @@ fn write(tables: &Tables, ruling: Ruling, numbers: &mut [i32]) -> Result<Totals,
     let Some((first, later)) = ruling.found else {
         return Err(Refusal::whole(Reason::OtherVerdict));
     };
-    let mut literals = Literals::new();
+    let mut literals = Literals::EMPTY;
     pair_literals(tables, first, later, &mut literals);
     let totals = cnf::counts(literals.rows(), WIDTH);
     if numbers.len() < totals.numbers {

@@ -60,7 +60,7 @@ pub own_clause : (w n : ℕ) (literal : Literal) (q : ℕ) → q < length (gadge
 own_clause w n literal q h =
     let compares = compares_with w n literal q h in
     let below : q < 2 * w = omega (arith, bits_count w n literal compares) in
-    (ap (λ (all : List Clause). get_or all q []) (by_bits w n literal compares) ∙ in_pairs (clauses_of_bit literal n) [] (two_clauses n literal compares) 0 w q below ∙ rw zero_plus, omega arith)
+    (ap (λ (all : List Clause). get_or all q []) (by_bits w n literal compares) ∙ in_pairs (clauses_of_bit literal n) [] (two_clauses n literal) 0 w q below ∙ rw zero_plus, omega arith)
   where
     zero_plus : 0 + q / 2 ≡ q / 2
     zero_plus = omega arith

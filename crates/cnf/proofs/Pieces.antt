@@ -51,32 +51,32 @@ pub differences_step : (sizes : Sizes) (n k : ℕ) → k < sizes.width
 differences_step sizes n k h = rw (range_step k sizes.width h)
 
 -- what the two clauses of a bit are goes by the literal
-by_literal : (literal : Literal) (P : List Clause → Type 0) (n k : ℕ) → Compares literal
+by_literal : (literal : Literal) (P : List Clause → Type 0) (n k : ℕ)
     → ((i j : ℕ) → P (differing i j n k)) → ((v w : ℕ) → P (agreeing v w n k)) → P (clauses_of_bit literal n k)
-by_literal (Equal i j) P n k compares differ agree = differ i j
-by_literal (Differ i j) P n k compares differ agree = agree i j
-by_literal (IsTrue m) P n k compares differ agree = absurd compares
-by_literal (IsFalse m) P n k compares differ agree = absurd compares
-by_literal (Conclusion v w) P n k compares differ agree = agree v w
+by_literal (Equal i j) P n k differ agree = differ i j
+by_literal (Differ i j) P n k differ agree = agree i j
+by_literal (IsTrue m) P n k differ agree = agree m 0
+by_literal (IsFalse m) P n k differ agree = agree m 0
+by_literal (Conclusion v w) P n k differ agree = agree v w
 
-module _ (sizes : Sizes) (literal : Literal) (n : ℕ) (compares : Compares literal) where
+module _ (sizes : Sizes) (literal : Literal) (n : ℕ) where
   pub two_sides : (k : ℕ) → map (closed sizes) (clauses_of_bit literal n k) ≡ side sizes literal n k 0 ∷ side sizes literal n k 1 ∷ []
   two_sides k =
       by_literal literal (λ two. map (closed sizes) two ≡ closed sizes (get_or two 0 []) ∷ closed sizes (get_or two 1 []) ∷ [])
-      n k compares (λ i j. refl) (λ v w. refl)
+      n k (λ i j. refl) (λ v w. refl)
 
   pub side_at : (k which : ℕ) → which < 2 → get_or (map (closed sizes) (clauses_of_bit literal n k)) which [] ≡ side sizes literal n k which
   side_at k zero h = ap (λ (two : List (List ℤ)). get_or two 0 []) (two_sides k)
   side_at k (suc zero) h = ap (λ (two : List (List ℤ)). get_or two 1 []) (two_sides k)
   side_at k (suc (suc which)) h = absurd (omega arith)
 
-pub bits_step : (sizes : Sizes) (placed : Placed) → Compares placed.literal → (k : ℕ) (two : List (List ℤ)) → k < sizes.width
+pub bits_step : (sizes : Sizes) (placed : Placed) (k : ℕ) (two : List (List ℤ)) → k < sizes.width
     → two ≡ map (closed sizes) (bit_clauses placed k)
     → bits_from sizes placed k ≡ get_or two 0 [] ++ (get_or two 1 [] ++ bits_from sizes placed (k + 1))
-bits_step sizes placed compares k two h same =
+bits_step sizes placed k two h same =
     rw (same, range_step k sizes.width h, concat_map_append (closed sizes))
     (by_literal placed.literal (λ clauses. concat_map (closed sizes) clauses ++ bits_from sizes placed (k + 1) ≡ get_or (map (closed sizes) clauses) 0 [] ++ (get_or (map (closed sizes) clauses) 1 [] ++ bits_from sizes placed (k + 1)))
-    placed.fresh k compares (λ i j. refl) (λ v w. refl))
+    placed.fresh k (λ i j. refl) (λ v w. refl))
 
 -- The clauses of a literal: none for a Boolean one, else two for each bit
 pub no_clauses_lem : (w n : ℕ) (literal : Literal) → (gadget w n (literal_in literal)).rank ≡ 0 → (gadget w n (literal_in literal)).clauses ≡ []
@@ -101,9 +101,9 @@ by_bits w n (IsTrue m) compares = absurd compares
 by_bits w n (IsFalse m) compares = absurd compares
 by_bits w n (Conclusion v u) compares = refl
 
-pub two_clauses : (n : ℕ) (literal : Literal) → Compares literal → (k : ℕ) → length (clauses_of_bit literal n k) ≡ 2
-two_clauses n literal compares k = by_literal literal (λ two. length two ≡ 2) n k compares (λ i j. refl) (λ v w. refl)
+pub two_clauses : (n : ℕ) (literal : Literal) (k : ℕ) → length (clauses_of_bit literal n k) ≡ 2
+two_clauses n literal k = by_literal literal (λ two. length two ≡ 2) n k (λ i j. refl) (λ v w. refl)
 
 pub bits_count : (w n : ℕ) (literal : Literal) → Compares literal → 2 * w ≡ length (gadget w n (literal_in literal)).clauses
 bits_count w n literal compares =
-    sym (ap (λ (all : List Clause). length all) (by_bits w n literal compares) ∙ length_over_range (clauses_of_bit literal n) 2 0 w (two_clauses n literal compares))
+    sym (ap (λ (all : List Clause). length all) (by_bits w n literal compares) ∙ length_over_range (clauses_of_bit literal n) 2 0 w (two_clauses n literal))

@@ -52,6 +52,22 @@ range_step k n h =
     let more : n - k ≡ suc (n - (k + 1)) = omega arith in
     rw (more, add-one)
 
+-- nothing to write is written
+pub nothing : (run : List ℤ) (at : ℕ) → Put run run at at []
+nothing run at = record { stored = refl; passed = omega arith }
+
+-- one number stored is a run of one
+one : (run : List ℤ) (at : ℕ) {x y : ℤ} → x ≡ y → Put run (set run at x) at (at + 1) (y ∷ [])
+one run at same = rw same (record { stored = refl; passed = refl })
+
+-- the same piece, said otherwise
+pub put_as : {before after : List ℤ} {at next : ℕ} {piece other : List ℤ} → piece ≡ other → Put before after at next piece → Put before after at next other
+put_as same put = rw (← same) put
+
+-- the same run, said otherwise
+pub put_in : {before other after : List ℤ} {at next : ℕ} {piece : List ℤ} → before ≡ other → Put before after at next piece → Put other after at next piece
+put_in same put = rw (← same) put
+
 -- the same piece, or rest, said otherwise
 pub wrote_as : {before after : Run} {piece other : List ℤ} → piece ≡ other → Wrote before after piece → Wrote before after other
 wrote_as same wrote = rw (← same) wrote

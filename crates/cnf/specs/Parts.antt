@@ -37,12 +37,12 @@ numbers_of sizes clause = map (signed_number sizes.width sizes.bases sizes.boole
 abbrev pub closed : Sizes → Clause → List ℤ
 closed sizes clause = numbers_of sizes clause ++ (pos 0 ∷ [])
 
--- the two clauses of bit k of a literal that compares; a Boolean has none
+-- the two clauses of bit k of a literal that compares; a Boolean's, which nobody puts, are those of one that compares it with term 0
 abbrev pub clauses_of_bit : Literal → (n k : ℕ) → List Clause
 clauses_of_bit (Equal i j) n k = differing i j n k
 clauses_of_bit (Differ i j) n k = agreeing i j n k
-clauses_of_bit (IsTrue m) n k = []
-clauses_of_bit (IsFalse m) n k = []
+clauses_of_bit (IsTrue m) n k = agreeing m 0 n k
+clauses_of_bit (IsFalse m) n k = agreeing m 0 n k
 clauses_of_bit (Conclusion v w) n k = agreeing v w n k
 
 abbrev pub bit_clauses : Placed → (k : ℕ) → List Clause

@@ -13,7 +13,7 @@ pub struct Sizes {
 }
 
 // The lowest variable: 0 closes a clause.
-const FIRST: usize = 1;
+pub const FIRST: usize = 1;
 
 impl Sizes {
     // "Bit k of base term b (0 lowest) is variable 32b+k+1; Boolean m is 32B+m+1; fresh ones follow": all are so many bits above a base term,

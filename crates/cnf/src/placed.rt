@@ -14,12 +14,23 @@ pub struct Placed {
 }
 
 impl Placed {
-    ghost use Rattle.cnf.specs.Parts.{Room, Wrote, Compares, numbers_of, closed, bit_clauses, bit_numbers, differences, gadget_of, part_of};
+    ghost use Rattle.paper.specs.Clauses.{agreeing};
+    ghost use Rattle.cnf.specs.Parts.{Room, Wrote, numbers_of, closed, bit_clauses, bit_numbers, differences, gadget_of, part_of};
 
-    // The two clauses of a bit, closed by 0. "For 'equal i j', each bit: (i, j, not d), (not i, not j, not d). For each e with its two terms
-    // v w, each bit: (not v, w, not e), (v, not w, not e)".
+    // "For each e with its two terms v w, each bit: (not v, w, not e), (v, not w, not e)".
+    fn agreeing(self, sizes: Sizes, v: u8, w: u8, bit: usize) -> [[i32; 4]; 2]
+        requires { bit < sizes.width }
+        ensures { result ≡ map (closed sizes) (agreeing v w self.fresh bit) }
+    {
+        let v = sizes.variable(v as usize, bit);
+        let w = sizes.variable(w as usize, bit);
+        let e = sizes.fresh_variable(self.fresh);
+        [[-v, w, -e, 0], [v, -w, -e, 0]]
+    }
+
+    // The two clauses of a bit, closed by 0. "For 'equal i j', each bit: (i, j, not d), (not i, not j, not d)". Of a Boolean nobody asks.
     pub fn bit_clauses(self, sizes: Sizes, bit: usize) -> [[i32; 4]; 2]
-        requires { Compares self.literal × (bit < sizes.width) }
+        requires { bit < sizes.width }
         ensures { result ≡ map (closed sizes) (bit_clauses self bit) }
     {
         match self.literal {
@@ -29,19 +40,14 @@ impl Placed {
                 let d = sizes.fresh_variable(self.fresh + bit);
                 [[i, j, -d, 0], [-i, -j, -d, 0]]
             }
-            Literal::Differ(v, w) | Literal::Conclusion(v, w) => {
-                let v = sizes.variable(v as usize, bit);
-                let w = sizes.variable(w as usize, bit);
-                let e = sizes.fresh_variable(self.fresh);
-                [[-v, w, -e, 0], [v, -w, -e, 0]]
-            }
-            Literal::IsTrue(_) | Literal::IsFalse(_) => unreachable!(),
+            Literal::Differ(v, w) | Literal::Conclusion(v, w) => self.agreeing(sizes, v, w, bit),
+            Literal::IsTrue(m) | Literal::IsFalse(m) => self.agreeing(sizes, m, 0, bit),
         }
     }
 
     // The clauses of a literal that compares, bit by bit.
     pub fn put_bits(self, sizes: Sizes, run: &mut Run)
-        requires { Compares self.literal × Room run.old (bit_numbers sizes self) }
+        requires { Room run.old (bit_numbers sizes self) }
         ensures { Wrote run.old run.new (bit_numbers sizes self) }
     {
         // A run of its own for the loop, whose place stays in a register: it is four times as fast.
@@ -58,7 +64,7 @@ impl Placed {
     }
 
     // "all d": the fresh variables of an "equal".
-    fn put_differences(self, sizes: Sizes, run: &mut Run)
+    pub fn put_differences(self, sizes: Sizes, run: &mut Run)
         requires { Room run.old (differences sizes self.fresh) }
         ensures { Wrote run.old run.new (differences sizes self.fresh) }
     {

@@ -8,11 +8,11 @@ use mathlib.Core.List.{List}
 use lib.ListN.{length, get_or, replicate, length-replicate, get_or-replicate}
 use Rattle.terms.specs.declared.Tables.{Tables}
 use Rattle.reach.specs.declared.marks.Mark.{Mark}
-use Rattle.reach.specs.Reached.{Edges, opens_in, sources_in, rows_in, links_in, clear_in, Sources, origin_at, value_at, Ends, RowOf, Marked}
+use Rattle.reach.specs.Reached.{Edges, opens_in, sources_in, rows_in, links_in, Sources, origin_at, value_at, Ends, RowOf, Marked}
 use Rattle.reach.specs.Steps.{Within}
 use Rattle.reach.proofs.Words.{lent_ends}
 use Rattle.reach.proofs.Rows.{same_row}
-use Rattle.reach.proofs.Marking.{blank, rows_length, links_length, clear_length, link_read, clear_read}
+use Rattle.reach.proofs.Marking.{blank, rows_length, links_length, link_read}
 use Rattle.lemma.specs.Pairs.{Shared, Searchable}
 use Rattle.front.specs.Fronted.{Unruled}
 
@@ -23,9 +23,9 @@ shared e s n rows ends origin right i j i_in j_in same stands a =
     let theirs = subst (λ (x : ℕ). RowOf e n x (origin_at s j) (get_or rows j 0)) same (right j j_in) in
     theirs a ∙ sym (same_row e n (value_at s i) ends (origin_at s i) (origin_at s j) (get_or rows i 0) (origin i i_in) (right i i_in) stands a)
 
--- with marks that were just made, of whatever size suffices
+-- with marks and notes that were just made, of whatever size suffices
 pub unruled : {t : Tables} → Within t.edges t.counts.edges (sources_in t) t.counts.arrays → (size : ℕ) → t.counts.sources ≤ size
-    → Unruled t (rows_in (replicate size blank)) (links_in (replicate size blank)) (clear_in (replicate size blank))
+    → Unruled t (rows_in (replicate size blank)) (links_in (replicate size blank)) (replicate size false)
 unruled known size room =
     let marks = replicate size blank in
     let made = length-replicate size blank in
@@ -37,15 +37,15 @@ unruled known size room =
             next_long = omega (arith, links_length marks, made);
             free = λ k below. sym (link_read marks k) ∙ ap (λ (mark : Mark). mark.next) (get_or-replicate size k blank blank (omega arith));
           };
-      clear_long = omega (arith, clear_length marks, made);
-      unknown = λ k below. sym (clear_read marks k) ∙ ap (λ (mark : Mark). mark.clear) (get_or-replicate size k blank blank (omega arith));
+      clear_long = omega (arith, length-replicate size false);
+      unknown = λ k below. get_or-replicate size k false false (omega arith);
     }
 
 -- what was marked can be searched
-pub searchable : {t : Tables} (before after : List Mark) {total : ℕ} → Unruled t (rows_in before) (links_in before) (clear_in before)
-    → Marked (opens_in t) (sources_in t) t.counts.arrays (rows_in after) (links_in after) total → clear_in after ≡ clear_in before → length after ≡ length before
-    → Searchable (sources_in t) (rows_in after) (links_in after) (clear_in after)
-searchable {t} before after lent marked clear_kept kept =
+pub searchable : {t : Tables} (before after : List Mark) {clear : List Bool} {total : ℕ} → Unruled t (rows_in before) (links_in before) clear
+    → Marked (opens_in t) (sources_in t) t.counts.arrays (rows_in after) (links_in after) total → length after ≡ length before
+    → Searchable (sources_in t) (rows_in after) (links_in after) clear
+searchable {t} before after lent marked kept =
     let within = lent.unmarked.within in
     record {
       sources = within.sources;
@@ -54,6 +54,6 @@ searchable {t} before after lent marked clear_kept kept =
       shared = shared (opens_in t) (sources_in t) t.counts.arrays (rows_in after) (lent_ends within.lent t.values t.truths) within.origin marked.rows;
       rows_long = omega (arith, lent.unmarked.rows_long, rows_length before, rows_length after, kept);
       links_long = omega (arith, lent.unmarked.next_long, links_length before, links_length after, kept);
-      clear_long = omega (arith, lent.clear_long, clear_length before, clear_length after, kept);
-      unknown = λ k below. ap (λ (clear : List Bool). get_or clear k false) clear_kept ∙ lent.unknown k below;
+      clear_long = lent.clear_long;
+      unknown = lent.unknown;
     }

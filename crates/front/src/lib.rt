@@ -2,7 +2,7 @@
 #![tactic(auto)]
 
 ghost use Rattle.std.specs.Prelude.{◌≤◌, get_or};
-ghost use Rattle.reach.specs.Reached.{opens_in, sources_in, rows_in, links_in, clear_in, max_rows};
+ghost use Rattle.reach.specs.Reached.{opens_in, sources_in, rows_in, links_in, max_rows};
 ghost use Rattle.reach.specs.Steps.{Within};
 ghost use Rattle.lemma.specs.Between.{LemmaBetween};
 ghost use Rattle.front.specs.Fronted.{Unruled, Ruled, Fronted, Paired};
@@ -12,7 +12,7 @@ use paper::Refusal;
 use reach::{MAX_ROWS, Mark, mark};
 use terms::Tables;
 
-// So many sources have marks of their own size: a small query clears no large table.
+// So many sources have marks and notes of their own size: a small query clears no large table.
 const FEW: usize = 32;
 
 // What is ruled on the tables, which go on beside it, lent: the number of pairs, and the numbers of the two sources that conflict, s and t of
@@ -23,17 +23,17 @@ pub struct Ruling {
     pub found: Option<(usize, usize)>,
 }
 
-// Marks the sources, and takes the first pair of sources that conflict.
-fn rule(tables: &Tables, marks: &mut [Mark]) -> Ruling
-    requires { Unruled tables.now (rows_in marks.old) (links_in marks.old) (clear_in marks.old) }
+// Marks the sources, and takes the first pair of sources that conflict, by notes on which are known to conflict with no later one.
+fn rule(tables: &Tables, marks: &mut [Mark], clear: &mut [bool]) -> Ruling
+    requires { Unruled tables.now (rows_in marks.old) (links_in marks.old) clear.old }
     ensures { Ruled tables.now result }
 {
     let pairs = mark(tables, marks);
-    let found = first_pair(tables, marks);
+    let found = first_pair(tables, marks, clear);
     Ruling { pairs, found }
 }
 
-// The same, with marks of its own, for so many sources.
+// The same, with marks and notes of its own, for so many sources.
 fn rule_of<const ROWS: usize>(tables: &Tables) -> Ruling
     requires within { Within tables.now.edges tables.now.counts.edges (sources_in tables.now) tables.now.counts.arrays }
     requires room { tables.now.counts.sources ≤ ROWS }
@@ -41,7 +41,8 @@ fn rule_of<const ROWS: usize>(tables: &Tables) -> Ruling
     ensures { Ruled tables.now result }
 {
     let mut marks = [Mark::NONE; ROWS];
-    rule(tables, &mut marks)
+    let mut clear = [false; ROWS];
+    rule(tables, &mut marks, &mut clear)
 }
 
 fn rule_alone(tables: &Tables) -> Ruling

@@ -14,8 +14,7 @@ use borrow.Author.Tests.{eq-eqb, ne_eqb}
 use lib.ListN.{get_or, set}
 use lib.Seq.{get_or-set_other}
 use Rattle.paper.specs.Lists.{range}
-use Rattle.reach.specs.declared.marks.Mark.{Mark}
-use Rattle.reach.specs.Reached.{Sources, rows_in, links_in, clear_in, bit, origin_at, value_at, NextOf, assigned_at}
+use Rattle.reach.specs.Reached.{Sources, bit, origin_at, value_at, NextOf, assigned_at}
 use Rattle.lemma.specs.Pairs.{Numbers, clash_of, settled_by, clash_in, pair_among, pair_in, Shared, Linked}
 use Rattle.lemma.proofs.Ranges.{range_from, range_end, find_skip}
 
@@ -98,6 +97,10 @@ module _ (s : Sources) (rows : List ℕ) where
   pub cleared_first : (clear : List Bool) → ((k : ℕ) → k < s.count → get_or clear k false ≡ false) → Cleared 0 clear
   cleared_first clear unknown k above inside marked = absurd (false≢true (sym (unknown k inside) ∙ marked))
 
+  -- what is known when source i comes to be tried holds while it is tried: no source is yet marked for being like it
+  pub marked_first : (i : ℕ) (clear : List Bool) → Cleared i clear → Marked i clear
+  marked_first i clear cleared k above inside marked = inl (cleared k (omega arith) inside marked)
+
   -- once source i is free, so are those that are like it
   pub cleared_next : (i : ℕ) (clear : List Bool) → Free i s.count → Marked i clear → Cleared (i + 1) clear
   cleared_next i clear free all k above inside marked = go (all k (omega arith) inside marked)
@@ -127,49 +130,38 @@ module _ (s : Sources) (rows : List ℕ) where
           (put (get_or clear t false) refl (ℕ_discrete _ _) (ℕ_discrete _ _) (mark_put clear t new (ap (λ (n : ℕ). get_or (set clear t new) n false) (sym here) ∙ marked)))
       go (no other) = all k above inside (sym (get_or-set_other clear t k new false other) ∙ marked)
 
+  -- what the search of source i begins with: the first to try has its index value, and it conflicts with none before that
+  pub begins : (i next : ℕ) (known : Bool) → (known ≡ true → Free i s.count) → NextOf s i next → (t : ℕ) → t ≡ cond known s.count next
+      → (t < s.count → value_at s t ≡ value_at s i) × Free i t
+  begins i next true free link t is = ((λ below. absurd (omega (arith, below, is))), (λ j above below. free refl j above (omega arith)))
+  begins i next false free link t is =
+      subst (λ (n : ℕ). (n < s.count → value_at s n ≡ value_at s i) × Free i n) (sym is) (link.same, free_link i i next refl link)
+
+-- where the search of source i begins: later than source i, and within the table
+pub begins_at : (i next count : ℕ) (known : Bool) → i < count → i < next → next ≤ count → (t : ℕ) → t ≡ cond known count next → (i < t) × (t ≤ count)
+begins_at i next count true inside later within t is = (omega arith, omega arith)
+begins_at i next count false inside later within t is = (omega (arith, is), omega (arith, is))
+
 -- what is left to search, and what is known of it
-pub record Searching (s : Sources) (marks₀ marks : List Mark) (i : ℕ) : Type 0 where
-  pub rows : rows_in marks ≡ rows_in marks₀
-  pub links : links_in marks ≡ links_in marks₀
-  pub left : pair_in s (rows_in marks₀) ≡ rest_from s (rows_in marks₀) i
-  pub cleared : Cleared s (rows_in marks₀) i (clear_in marks)
+pub record Searching (s : Sources) (rows : List ℕ) (clear : List Bool) (i : ℕ) : Type 0 where
+  pub left : pair_in s rows ≡ rest_from s rows i
+  pub cleared : Cleared s rows i clear
 
 -- while source i is tried, with source t next
-pub record Trying (s : Sources) (marks₀ marks : List Mark) (i t : ℕ) : Type 0 where
-  pub rows : rows_in marks ≡ rows_in marks₀
-  pub links : links_in marks ≡ links_in marks₀
+pub record Trying (s : Sources) (rows : List ℕ) (clear : List Bool) (i t : ℕ) : Type 0 where
   pub later : i < t
   pub within : t ≤ s.count
   pub same : t < s.count → value_at s t ≡ value_at s i
-  pub free : Free s (rows_in marks₀) i t
-  pub marked : Marked s (rows_in marks₀) i (clear_in marks)
+  pub free : Free s rows i t
+  pub marked : Marked s rows i clear
 
 -- the first to try, once source i comes to be tried
-pub trying_begun : {s : Sources} {marks₀ marks : List Mark} {i t : ℕ} → i < s.count → Linked s (links_in marks₀) → Searching s marks₀ marks i
-    → t ≡ cond (get_or (clear_in marks) i false) s.count (get_or (links_in marks) i 0) → Trying s marks₀ marks i t
-trying_begun {s} {marks₀} {marks} {i} {t} inside linked searching is = go (get_or (clear_in marks) i false) refl is
-  where
-    link : NextOf s i (get_or (links_in marks) i 0)
-    link = subst (λ (links : List ℕ). NextOf s i (get_or links i 0)) (sym searching.links) (linked i inside)
-
-    go : (known : Bool) → get_or (clear_in marks) i false ≡ known → t ≡ cond known s.count (get_or (links_in marks) i 0) → Trying s marks₀ marks i t
-    go true known at =
-        record {
-          rows = searching.rows;
-          links = searching.links;
-          later = omega (arith, at);
-          within = omega (arith, at);
-          same = λ below. absurd (omega (arith, at));
-          free = λ j above below. searching.cleared i (omega arith) inside known j above (omega (arith, at));
-          marked = λ k above k_in put. inl (searching.cleared k (omega arith) k_in put);
-        }
-    go false known at =
-        record {
-          rows = searching.rows;
-          links = searching.links;
-          later = omega (arith, at, link.later);
-          within = omega (arith, at, link.within);
-          same = λ below. subst (λ (n : ℕ). value_at s n ≡ value_at s i) (sym at) (link.same (omega (arith, at)));
-          free = λ j above below. free_link s (rows_in marks₀) i i _ refl link j above (omega (arith, at));
-          marked = λ k above k_in put. inl (searching.cleared k (omega arith) k_in put);
-        }
+pub trying_begun : {s : Sources} {rows : List ℕ} {clear : List Bool} {i t : ℕ} (links : List ℕ) → i < s.count → Linked s links → Searching s rows clear i
+    → t ≡ cond (get_or clear i false) s.count (get_or links i 0) → Trying s rows clear i t
+trying_begun {s} {rows} {clear} {i} {t} links inside linked searching is =
+    let next = get_or links i 0 in
+    let known = get_or clear i false in
+    let link = linked i inside in
+    let bounds = begins_at i next s.count known inside link.later link.within t is in
+    let begun = begins s rows i next known (searching.cleared i (omega arith) inside) link t is in
+    record { later = bounds.0; within = bounds.1; same = begun.0; free = begun.1; marked = marked_first s rows i clear searching.cleared }

@@ -37,13 +37,16 @@ impl Model for Literals {
 }
 
 impl Literals {
+    // No literals. Who owns a list makes it of the constant, where it stands: what `new` returns is copied there.
+    pub const EMPTY: Literals = Literals {
+        rows: [Literal::IsTrue(0); MAX_LITERALS],
+        count: 0,
+    };
+
     pub fn new() -> Self
         ensures { result ≡ [] }
     {
-        Literals {
-            rows: [Literal::IsTrue(0); MAX_LITERALS],
-            count: 0,
-        }
+        Literals::EMPTY
     }
 
     pub fn rows(&self) -> &[Literal]

@@ -6,7 +6,7 @@ ghost use Rattle.lines.specs.Lines.{literal_text};
 
 use checker::Verdict;
 use paper::{CONCLUSION, DIFFER, EQUAL, IS_FALSE, IS_TRUE, MAX_ANSWER, MAX_ARRAYS, MAX_SOURCES};
-use print::Page;
+use print::{PAGE, Page};
 use std::fmt;
 
 // A literal of the lemma, with the numbers of its terms, as who reads the bytes has it: nothing of it is the writer's.
@@ -86,17 +86,19 @@ fn print_model(page: &mut Page<'_, impl Print + Eprint>, query: &[u8]) {
 }
 
 // Prints the verdict, with the lemma or the model's cells.
-pub fn verdict(page: &mut Page<'_, impl Print + Eprint>, query: &[u8]) {
+pub fn verdict(rt: &(impl Print + Eprint), query: &[u8]) {
+    let mut bytes = [0u8; PAGE];
+    let mut page = Page::new(rt, &mut bytes);
     let mut answer = [0u8; MAX_ANSWER];
     match checker::check(query, &mut answer) {
         Err(refusal) => writeln!(page, "{refusal}"),
         Ok(Verdict::Consistent { pairs }) => {
             writeln!(page, "consistent {pairs}");
-            print_model(page, query);
+            print_model(&mut page, query);
         }
         Ok(Verdict::Conflict { pairs, length }) => {
             writeln!(page, "conflict {pairs}");
-            print_lemma(page, &answer[..length.min(MAX_ANSWER)]);
+            print_lemma(&mut page, &answer[..length.min(MAX_ANSWER)]);
         }
     }
 }

@@ -1,7 +1,7 @@
 // The lookup program: one query on standard input, the cell in the file `cell.txt`, and its value on standard output.
 #![tactic(auto)]
 
-use print::{Page, QUERY_ROOM};
+use print::{PAGE, Page, QUERY_ROOM};
 use std::io::Read;
 use std::rt::Files;
 use std::{fs, str};
@@ -58,7 +58,9 @@ fn read_cell(rt: &impl Files) -> Option<Cell> {
     cell_in(&mut file)
 }
 
-fn look(page: &mut Page<'_, impl Print + Eprint>, query: &[u8], cell: Cell) {
+fn look(rt: &(impl Print + Eprint), query: &[u8], cell: Cell) {
+    let mut bytes = [0u8; PAGE];
+    let mut page = Page::new(rt, &mut bytes);
     match checker::lookup(query, cell.array, cell.index) {
         Err(refusal) => writeln!(page, "{refusal}"),
         Ok(value) => writeln!(page, "{value}"),
@@ -70,6 +72,6 @@ fn main(rt: HostRuntime) {
     let mut buffer = [0u8; QUERY_ROOM];
     if let Some(query) = print::whole_query(&rt, &mut rt.stdin(), &mut buffer) {
         let cell = read_cell(&rt).unwrap_or(NOWHERE);
-        look(&mut Page::new(&rt), query, cell);
+        look(&rt, query, cell);
     }
 }

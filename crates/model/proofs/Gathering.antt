@@ -5,14 +5,20 @@ use native.Mathlib.Omega.{arith}
 use mathlib.Core.Path.{◌≡◌, sym, ap, ◌∙◌}
 use mathlib.Core.Bool.{Bool, true, false, cond}
 use mathlib.Core.List.{List, [], ◌∷◌, map}
-use lib.ListN.{length, length-map}
+use lib.ListN.{length, length-append, length-drop, length-map}
 use Rattle.paper.specs.Lists.{keep, range}
 use Rattle.paper.specs.Cells.{Cell, place, place_all}
+use Rattle.paper.specs.Answers.{written_over}
 use Rattle.meaning.proofs.Cells.{place_few}
 use Rattle.reach.specs.Reached.{Edges, Sources}
 use Rattle.model.specs.declared.cells.Cell as Code
 use Rattle.model.specs.Listed.{cell_at, cell_in, reaches_in, listed_in}
 use Rattle.model.proofs.Holding.{range_step}
+
+-- a run of numbers that holds a part of each cell keeps its length
+run_long : (listed : List Cell) (part : Cell → ℕ) (buffer : List ℕ) → length listed ≤ length buffer
+    → length (written_over buffer (map part listed)) ≡ length buffer
+run_long listed part buffer few = simp (length-append, length-drop, length-map) (omega arith)
 
 module _ (e : Edges) (s : Sources) (n a : ℕ) where
   -- the cells of the sources from k on

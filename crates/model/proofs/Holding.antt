@@ -61,3 +61,7 @@ module _ (s : Sources) (row x : ℕ) where
 
   pub left_found : (k : ℕ) → k < s.count → holds_at s row x k ≡ true → LeftFrom k → assigned_at s k ≡ value_by s row x
   left_found k inside here left = sym (one_more k inside true here left)
+
+  -- no source is left: none holds the cell, and its value is 0
+  pub left_none : (k : ℕ) → s.count ≤ k → LeftFrom k → 0 ≡ value_by s row x
+  left_none k all left = let none_left : s.count - k ≡ 0 = omega arith in sym (left ∙ rw none_left)

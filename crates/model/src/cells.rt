@@ -41,13 +41,16 @@ impl Model for Cells {
 }
 
 impl Cells {
+    // No cells. Who owns a list makes it of the constant, where it stands: what `new` returns is copied there.
+    pub const EMPTY: Cells = Cells {
+        cells: [Cell { index: 0, value: 0 }; MAX_SOURCES],
+        used: 0,
+    };
+
     pub fn new() -> Self
         ensures { result ≡ [] }
     {
-        Cells {
-            cells: [Cell { index: 0, value: 0 }; MAX_SOURCES],
-            used: 0,
-        }
+        Cells::EMPTY
     }
 
     pub fn as_slice(&self) -> &[Cell]

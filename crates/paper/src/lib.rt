@@ -1,5 +1,5 @@
-// The numbers of 01, each said once: limits, sizes, tags of literals and refusals. What the paper says stands in specs/, as definitions over
-// lists; its known queries are proved in proofs/.
+// The numbers of 01, each said once: limits, sizes, tags and refusals. What the paper says stands in specs/, as definitions over lists; its known
+// queries are proved in proofs/.
 #![tactic(auto)]
 
 ghost use Rattle.std.specs.Prelude.{◌≡◌, Some};
@@ -33,6 +33,23 @@ pub const MAX_NUMBERS: usize = 12625;
 pub const WIDTH: usize = 32;
 
 pub const NUMBERS: u64 = 4294967296;
+
+// The tags of fields: "01 free base .. 07 equality"; 02, E1: "New tag 08". The decoder's table of kinds (`query`) begins with them.
+pub const FREE_BASE: u8 = 0x01;
+
+pub const FREE_BOOLEAN: u8 = 0x02;
+
+pub const VARIABLE: u8 = 0x03;
+
+pub const WRITE: u8 = 0x04;
+
+pub const CONDITIONAL: u8 = 0x05;
+
+pub const READ: u8 = 0x06;
+
+pub const EQUALITY: u8 = 0x07;
+
+pub const FIXED: u8 = 0x08;
 
 // The tags of literals: "Fields: 21 equal, 22 differ, 25 conclusion .. 23 true, 24 false". They are bytes of a lemma, which are matched in patterns
 // of slices (`lines`), where no enum can stand.

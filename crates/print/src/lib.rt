@@ -15,7 +15,7 @@ use std::io::Read;
 pub const QUERY_ROOM: usize = MAX_BYTES + 1;
 
 // How many bytes a page holds.
-const PAGE_BYTES: usize = 4096;
+pub const PAGE: usize = 4096;
 
 // What cannot be read or written is said on standard error, with why, and the program goes on.
 fn fail(rt: &impl Eprint, what: &str, why: impl Display + Drop) {
@@ -88,48 +88,26 @@ pub fn whole_query<'a>(
     Some(&buffer[..held])
 }
 
-// What is to be printed, up to 4,096 bytes of it.
+fn send(rt: &(impl Print + Eprint), bytes: &[u8]) {
+    if let Err(error) = rt.write_all(bytes) {
+        fail(rt, "standard output", error);
+    }
+}
+
+// What is to be printed, up to 4,096 bytes of it. The bytes are lent: a page with bytes of its own is copied where it is returned and where it
+// is dropped.
 pub struct Page<'a, R: Print + Eprint> {
     rt: &'a R,
-    bytes: [u8; PAGE_BYTES],
+    bytes: &'a mut [u8; PAGE],
     used: usize,
     ghost fits: { used ≤ 4096 },
 }
 
 impl<'a, R: Print + Eprint> Page<'a, R> {
-    pub fn new(rt: &'a R) -> Page<'a, R>
+    pub fn new(rt: &'a R, bytes: &'a mut [u8; PAGE]) -> Page<'a, R>
         ensures { result.used ≡ 0 }
     {
-        Page {
-            rt,
-            bytes: [0; PAGE_BYTES],
-            used: 0,
-        }
-    }
-
-    // Sends what stands on the page.
-    fn send(&mut self)
-        ensures { self.new.used ≡ 0 }
-    {
-        if let Err(error) = self.rt.write_all(&self.bytes[..self.used]) {
-            fail(self.rt, "standard output", error);
-        }
-        self.used = 0;
-    }
-
-    // Sends a full page, so that a byte has room.
-    fn make_room(&mut self)
-        ensures { self.new.used < 4096 }
-    {
-        if self.used == PAGE_BYTES {
-            self.send();
-        }
-    }
-
-    fn put(&mut self, byte: u8) {
-        self.make_room();
-        self.bytes[self.used] = byte;
-        self.used += 1;
+        Page { rt, bytes, used: 0 }
     }
 
     // What `write!` and `writeln!` call. It does not fail, since a page that cannot be sent is told of at once.
@@ -139,22 +117,27 @@ impl<'a, R: Print + Eprint> Page<'a, R> {
 }
 
 impl<R: Print + Eprint> fmt::Write for Page<'_, R> {
+    // The place is a number of its own in the loop, which stays in a register: behind the reference each byte waits for the one before it.
     fn write_str(&mut self, text: &str) -> fmt::Result {
+        let mut used = self.used;
         for byte in text.as_bytes() {
-            self.put(*byte);
+            if used == PAGE {
+                send(self.rt, self.bytes);
+                used = 0;
+            }
+            self.bytes[used] = *byte;
+            used += 1;
         }
+        self.used = used;
         Ok(())
     }
 }
 
 impl<R: Print + Eprint> Drop for Page<'_, R> {
-    fn drop(mut self) {
-        self.send();
-        let Page {
-            rt: _,
-            bytes: _,
-            used: _,
-        } = self;
+    // What stands on the page goes out.
+    fn drop(self) {
+        let Page { rt, bytes, used } = self;
+        send(rt, &bytes[..used]);
     }
 }
 

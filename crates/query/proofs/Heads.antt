@@ -1,6 +1,7 @@
--- The head of a field: what stands at a place, by the first of the paper's tests that is met.
+-- The head of a field: which tags are known, and what stands at a place, by the first of the paper's tests that is met.
 -- Assumes nothing.
-use Rattle.std.proofs.Common.{◌≡◌, ℕ, ◌+◌, ◌≤◌, ◌<◌, Bool, true, false, not, List, [], ◌∷◌, length, drop, refl, ◌∙◌, arith, ltb, eqb, zero, suc}
+use Rattle.std.proofs.Common.{◌≡◌, ℕ, ◌+◌, ◌≤◌, ◌<◌, Bool, true, false, not, List, [], ◌∷◌, length, drop, refl, sym, ◌∙◌, arith, ltb, eqb, zero, suc}
+use Rattle.std.proofs.lemmas.Bool.{ltb-false}
 use Rattle.std.proofs.Math.Option.{Option, none, some}
 use borrow.Author.Tests.{lt-ltb, le-ltb, eqb-true, not-false}
 use Rattle.paper.specs.Lists.{is_some, ◌refuses◌, first_met}
@@ -9,6 +10,24 @@ use Rattle.paper.specs.Reasons.{number_of}
 use Rattle.paper.specs.declared.Reason.{Reason}
 use Rattle.paper.specs.declared.Reason.TheVariants.{TooLong, RunsPastEnd, UnknownTag, WrongLength, TooMany, NotGiven, WrongTruth, WrongWitness, EqualWitnesses, NoRoom, NoCell, OtherVerdict}
 use Rattle.query.specs.Standing.{end, broken, field, of_item, standing}
+
+-- a tag from 1 on is unknown exactly if it is above 8
+pub unknown_test : (tag : ℕ) → 1 ≤ tag → not (is_some (kind_of tag)) ≡ ltb 8 tag
+unknown_test zero low = absurd (omega arith)
+unknown_test (suc zero) low = refl
+unknown_test (suc (suc zero)) low = refl
+unknown_test (suc (suc (suc zero))) low = refl
+unknown_test (suc (suc (suc (suc zero)))) low = refl
+unknown_test (suc (suc (suc (suc (suc zero))))) low = refl
+unknown_test (suc (suc (suc (suc (suc (suc zero)))))) low = refl
+unknown_test (suc (suc (suc (suc (suc (suc (suc zero))))))) low = refl
+unknown_test (suc (suc (suc (suc (suc (suc (suc (suc zero)))))))) low = refl
+unknown_test (suc (suc (suc (suc (suc (suc (suc (suc (suc tag))))))))) low = sym (lt-ltb 8 _ (omega arith))
+
+-- a tag that is known stands in the table: it is one from 1 to 8
+pub known_tag : (tag : ℕ) → not (is_some (kind_of tag)) ≡ false → (1 ≤ tag) × (tag ≤ 8)
+known_tag zero known = absurd (cc)
+known_tag (suc tag) known = (omega arith, ltb-false 8 (suc tag) (sym (unknown_test (suc tag) (omega arith)) ∙ known))
 
 -- a head that no test refuses has its kind's length, and its whole value
 pub passed : (a b c d : Bool) → first_met ((a refuses 2) ∷ (b refuses 3) ∷ (c refuses 4) ∷ (d refuses 2) ∷ []) ≡ 0

@@ -7,7 +7,9 @@ ghost use Rattle.paper.specs.Lists.{number, first_met};
 ghost use Rattle.paper.specs.Fields.{kind_of, own_length, tag_at, head_tests};
 ghost use Rattle.query.specs.Standing.{Carries, paper_kind, found_kind, refusal_of, standing, standing_of};
 
-use paper::{Reason, Refusal};
+use paper::{
+    CONDITIONAL, EQUALITY, FIXED, FREE_BASE, FREE_BOOLEAN, READ, Reason, Refusal, VARIABLE, WRITE,
+};
 
 // The bytes of a field's head: tag and length.
 const HEAD: usize = 3;
@@ -31,14 +33,14 @@ impl Kind {
         ensures { found_kind result ≡ kind_of tag }
     {
         match tag {
-            0x01 => Some(Kind::FreeBase),
-            0x02 => Some(Kind::FreeBoolean),
-            0x03 => Some(Kind::Variable),
-            0x04 => Some(Kind::Write),
-            0x05 => Some(Kind::Conditional),
-            0x06 => Some(Kind::Read),
-            0x07 => Some(Kind::Equality),
-            0x08 => Some(Kind::Fixed),
+            FREE_BASE => Some(Kind::FreeBase),
+            FREE_BOOLEAN => Some(Kind::FreeBoolean),
+            VARIABLE => Some(Kind::Variable),
+            WRITE => Some(Kind::Write),
+            CONDITIONAL => Some(Kind::Conditional),
+            READ => Some(Kind::Read),
+            EQUALITY => Some(Kind::Equality),
+            FIXED => Some(Kind::Fixed),
             _ => None,
         }
     }

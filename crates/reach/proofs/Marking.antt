@@ -2,12 +2,11 @@
 -- Assumes nothing.
 use Prim.Native.Nat.{ℕ, zero, suc}
 use mathlib.Core.Path.{◌≡◌, refl, sym, ap, ◌∙◌}
-use mathlib.Core.Bool.{Bool, false}
 use mathlib.Core.List.{List, [], ◌∷◌, map}
 use lib.ListN.{length, get_or, set}
 use Rattle.std.proofs.lemmas.List.{map-set, set-get_or, length-map}
 use Rattle.reach.specs.declared.marks.Mark.{Mark}
-use Rattle.reach.specs.Reached.{row_of, rows_in, links_in, clear_in}
+use Rattle.reach.specs.Reached.{row_of, rows_in, links_in}
 
 -- so many rows, links and marks as there are
 pub rows_length : (marks : List Mark) → length (rows_in marks) ≡ length marks
@@ -16,20 +15,13 @@ rows_length marks = length-map marks row_of
 pub links_length : (marks : List Mark) → length (links_in marks) ≡ length marks
 links_length marks = length-map marks (λ (mark : Mark). mark.next)
 
-pub clear_length : (marks : List Mark) → length (clear_in marks) ≡ length marks
-clear_length marks = length-map marks (λ (mark : Mark). mark.clear)
-
 -- the mark of a source that is not yet marked
 abbrev pub blank : Mark
-blank = record { low = 0; middle = 0; high = 0; next = 0; clear = false }
+blank = record { low = 0; middle = 0; high = 0; next = 0 }
 
 -- a mark with a link
 abbrev pub linked : Mark → ℕ → Mark
-linked mark to = record { low = mark.low; middle = mark.middle; high = mark.high; next = to; clear = mark.clear }
-
--- a mark that is known to conflict with nothing, or not
-abbrev pub settled : Mark → Bool → Mark
-settled mark known = record { low = mark.low; middle = mark.middle; high = mark.high; next = mark.next; clear = known }
+linked mark to = record { low = mark.low; middle = mark.middle; high = mark.high; next = to }
 
 -- what is read of a mark
 read_at : {A : Type 0} (f : Mark → A) (marks : List Mark) (k : ℕ) → f (get_or marks k blank) ≡ get_or (map f marks) k (f blank)
@@ -43,9 +35,6 @@ row_read = read_at row_of
 pub link_read : (marks : List Mark) (k : ℕ) → (get_or marks k blank).next ≡ get_or (links_in marks) k 0
 link_read = read_at (λ (mark : Mark). mark.next)
 
-pub clear_read : (marks : List Mark) (k : ℕ) → (get_or marks k blank).clear ≡ get_or (clear_in marks) k false
-clear_read = read_at (λ (mark : Mark). mark.clear)
-
 -- what is read of all stays if what is put reads as what stood there
 pub put_same : {A : Type 0} (f : Mark → A) (marks : List Mark) (k : ℕ) (new : Mark) → f new ≡ f (get_or marks k blank) → map f (set marks k new) ≡ map f marks
 put_same f marks k new same = map-set f marks k new ∙ ap (set (map f marks) k) same ∙ sym (map-set f marks k (get_or marks k blank)) ∙ ap (map f) (set-get_or marks k blank)
@@ -57,9 +46,6 @@ module _ (marks : List Mark) (k : ℕ) where
 
   pub row_links : (new : Mark) → new.next ≡ (get_or marks k blank).next → links_in (set marks k new) ≡ links_in marks
   row_links new same = put_same (λ (mark : Mark). mark.next) marks k new same
-
-  pub row_clear : (new : Mark) → new.clear ≡ (get_or marks k blank).clear → clear_in (set marks k new) ≡ clear_in marks
-  row_clear new same = put_same (λ (mark : Mark). mark.clear) marks k new same
 
   -- both put
   pub both_links : (new : Mark) → links_in (set marks k new) ≡ set (links_in marks) k new.next
@@ -75,20 +61,3 @@ module _ (marks : List Mark) (k : ℕ) where
 
     pub link_links : links_in (set marks k new) ≡ set (links_in marks) k to
     link_links = map-set (λ (mark : Mark). mark.next) marks k new
-
-    pub link_clear : clear_in (set marks k new) ≡ clear_in marks
-    link_clear = put_same (λ (mark : Mark). mark.clear) marks k new refl
-
-  -- known to conflict with nothing, or not
-  module _ (known : Bool) where
-    abbrev told : Mark
-    told = settled (get_or marks k blank) known
-
-    pub told_rows : rows_in (set marks k told) ≡ rows_in marks
-    told_rows = put_same row_of marks k told refl
-
-    pub told_links : links_in (set marks k told) ≡ links_in marks
-    told_links = put_same (λ (mark : Mark). mark.next) marks k told refl
-
-    pub told_clear : clear_in (set marks k told) ≡ set (clear_in marks) k known
-    told_clear = map-set (λ (mark : Mark). mark.clear) marks k told

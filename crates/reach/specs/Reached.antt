@@ -50,15 +50,12 @@ max_rows = 302
 abbrev pub row_of : Mark → ℕ
 row_of mark = mark.low + mark.middle * 65536 + mark.high * 4294967296
 
--- the rows of the marks, the links, and which sources are known to conflict with nothing
+-- the rows of the marks, and the links
 abbrev pub rows_in : List Mark → List ℕ
 rows_in marks = map row_of marks
 
 abbrev pub links_in : List Mark → List ℕ
 links_in marks = map (λ mark. mark.next) marks
-
-abbrev pub clear_in : List Mark → List Bool
-clear_in marks = map (λ mark. mark.clear) marks
 
 -- the origin, the index value and the assigned value of source k
 abbrev pub origin_at : Sources → ℕ → ℕ

@@ -7,7 +7,7 @@ ghost use Rattle.std.specs.Prelude.{◌≡◌, ℕ, ◌^◌, ◌<◌, false, eqb
 ghost use Rattle.paper.specs.Sizes.{max_arrays};
 ghost use Rattle.terms.specs.Tables.{edges_in};
 ghost use Rattle.terms.specs.Graph.{Each};
-ghost use Rattle.reach.specs.Reached.{bit, opens_in, sources_in, rows_in, links_in, clear_in, RowOf, Marked};
+ghost use Rattle.reach.specs.Reached.{bit, opens_in, sources_in, rows_in, links_in, RowOf, Marked};
 ghost use Rattle.reach.specs.Steps.{EndsBelow, Lent, Adjacent, bit_set, edge_set, may_at, Apart, Gathered, RowTurned, Turnable, Spreads, SharedOrMade, Markable, Unmarked, ValueMarkedOver};
 
 pub use marks::Mark;
@@ -22,8 +22,13 @@ pub struct Spread {
     pub marked: usize,
 }
 
-// No accepted query has more than 302 sources (meaning, proofs/Sources.antt).
+// A row has a bit for each array term: three numbers of sixteen bits, which a mark keeps. No accepted query has more than 302 sources (meaning,
+// proofs/Sources.antt), and so the rows of any are 1,812 bytes of its marks.
+pub const ROW_PARTS: usize = 3;
+
 pub const MAX_ROWS: usize = 302;
+
+pub const MAX_PARTS: usize = MAX_ROWS * ROW_PARTS;
 
 // Does an array term stand in a row, or in a word? (It is a number that these are shifted by, so its bound is a clause.)
 pub fn stands_in(row: u64, array: usize) -> bool
@@ -164,8 +169,7 @@ fn mark_value(
     marks: &mut [Mark],
 ) -> usize
     requires { Markable neighbours.now (sources_in tables.now) first (rows_in marks.old) (links_in marks.old) }
-    ensures marked { ValueMarkedOver neighbours.now (sources_in tables.now) first (rows_in marks.old) (rows_in marks.new) (links_in marks.old) (links_in marks.new) result }
-    ensures clear { clear_in marks.new ≡ clear_in marks.old }
+    ensures { ValueMarkedOver neighbours.now (sources_in tables.now) first (rows_in marks.old) (rows_in marks.new) (links_in marks.old) (links_in marks.new) result }
 {
     let count = tables.counts.sources as usize;
     let begun = tables.sources[first];
@@ -197,8 +201,7 @@ fn mark_value(
 // yet, and the count for no next one, where an `Option` would take 32.
 pub fn mark(tables: &Tables, marks: &mut [Mark]) -> usize
     requires { Unmarked tables.now.edges tables.now.counts.edges (sources_in tables.now) tables.now.counts.arrays (rows_in marks.old) (links_in marks.old) }
-    ensures marked { Marked (opens_in tables.now) (sources_in tables.now) tables.now.counts.arrays (rows_in marks.new) (links_in marks.new) result }
-    ensures clear { clear_in marks.new ≡ clear_in marks.old }
+    ensures { Marked (opens_in tables.now) (sources_in tables.now) tables.now.counts.arrays (rows_in marks.new) (links_in marks.new) result }
 {
     let mut pairs = 0;
     // Any index value will do at first: the words are of all that may be open, so that nothing that it had shut is missing.

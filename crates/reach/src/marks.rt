@@ -3,14 +3,13 @@ ghost use Rattle.std.specs.Prelude.{◌≡◌, ◌^◌, ◌<◌};
 ghost use Rattle.reach.specs.Reached.{row_of};
 
 // What is marked of a source: its row, which has a bit for each array term, in three numbers of sixteen bits, the lowest first, so that 302 marks
-// are 3,020 bytes; the next source of its index value; and whether it is known to conflict with no later one.
+// are 2,416 bytes; and the next source of its index value.
 #[derive(Clone, Copy, Debug, PartialEq, Eq)]
 pub struct Mark {
     low: u16,
     middle: u16,
     high: u16,
     pub next: u16,
-    pub clear: bool,
 }
 
 impl Mark {
@@ -20,7 +19,6 @@ impl Mark {
         middle: 0,
         high: 0,
         next: 0,
-        clear: false,
     };
 
     // The row and its store: whoever reads or writes a row does it here.
@@ -36,7 +34,7 @@ impl Mark {
     pub fn set_row(&mut self, row: u64)
         requires { row < 2 ^ 48 }
         ensures row { row_of self.new ≡ row }
-        ensures others { (self.new.next ≡ self.old.next) × (self.new.clear ≡ self.old.clear) }
+        ensures others { self.new.next ≡ self.old.next }
     {
         self.low = (row % 65536) as u16;
         self.middle = (row / 65536 % 65536) as u16;

@@ -2,14 +2,16 @@
 // with number and offset. The queries and the lines that 01 fixes for them are made by tests/refusals.py.
 #![tactic(auto)]
 
-use print::Page;
+use print::{PAGE, Page};
 use std::io::Read;
 use terms::Tables;
 
 // More than any query of the tests.
 const ROOM: usize = 5000;
 
-fn load_query(page: &mut Page<'_, impl Print + Eprint>, query: &[u8]) {
+fn load_query(rt: &(impl Print + Eprint), query: &[u8]) {
+    let mut bytes = [0u8; PAGE];
+    let mut page = Page::new(rt, &mut bytes);
     let mut tables = Tables::EMPTY;
     match tables.load(query) {
         Ok(()) => writeln!(page, "accepted"),
@@ -24,7 +26,7 @@ fn load_one(rt: &(impl Print + Eprint), input: &mut impl Read) -> Option<()> {
     let length = u16::from_be_bytes(head);
     let mut room = [0u8; ROOM];
     let query = print::fill(input, &mut room, usize::from(length))?;
-    load_query(&mut Page::new(rt), query);
+    load_query(rt, query);
     Some(())
 }
 

@@ -7,7 +7,7 @@ use lib.IntN.{ℤ}
 use lib.ListN.{get_or}
 use Rattle.lemma.specs.declared.rows.Literal.TheVariants.{Equal}
 use Rattle.cnf.proofs.Pieces.{side_at}
-use Rattle.cnf.proofs.Nth.{compares_with, own_clause, sought_first, sought_later, clause_here, clause_last}
+use Rattle.cnf.proofs.Nth.{own_clause, sought_first, sought_later, clause_here, clause_last}
 use Rattle.cnf.proofs.bit_clause.Goals as goal
 
 pub loop-literal-init : goal.loop-literal-init
@@ -18,7 +18,7 @@ bit_clauses-two-requires c =
     let width = c.args.sizes.width in
     let fresh = c.loop-literal.fresh in
     let own = rw (c.clause_count-clauses.ensures.0 fresh) at c.if-left-clauses.true in
-    (compares_with width fresh _ _ own, (own_clause width fresh _ _ own).1)
+    (own_clause width fresh _ _ own).1
 
 pub returns-then-left-clauses : goal.returns-then-left-clauses
 returns-then-left-clauses c =
@@ -30,7 +30,7 @@ returns-then-left-clauses c =
     let literal = get_or rows k (Equal 0 0) in
     let own = rw (c.clause_count-clauses.ensures.0 fresh) at c.if-left-clauses.true in
     ap (λ (two : List (List ℤ)). get_or two (left % 2) []) c.bit_clauses-two.ensures
-    ∙ side_at sizes literal fresh (compares_with sizes.width fresh literal left own) (left / 2) (left % 2) (omega arith)
+    ∙ side_at sizes literal fresh (left / 2) (left % 2) (omega arith)
     ∙ clause_here sizes rows c.args.n fresh k left c.loop-literal-test.true c.loop-literal.invariant.0 own
 
 pub loop-literal-preserved : goal.loop-literal-preserved

@@ -4,9 +4,9 @@ use Rattle.front.proofs.Lending.{searchable}
 use Rattle.front.proofs.rule.Goals as goal
 
 pub first_pair-found-requires : goal.first_pair-found-requires
-first_pair-found-requires c = searchable c.args.marks.now c.mark-pairs.new.marks c.requires c.mark-pairs.ensures.marked c.mark-pairs.ensures.clear c.mark-pairs.auto.marks
+first_pair-found-requires c = searchable c.args.marks.now c.mark-pairs.new.marks c.requires c.mark-pairs.ensures c.mark-pairs.auto.marks
 
 pub returns : goal.returns
 returns c =
-    let marked = c.mark-pairs.ensures.marked in
-    record { words = _; rows = marked.rows; pairs = marked.pairs; found = c.first_pair-found.ensures.found }
+    let marked = c.mark-pairs.ensures in
+    record { words = _; rows = marked.rows; pairs = marked.pairs; found = c.first_pair-found.ensures }

@@ -1,4 +1,4 @@
--- `front::rule_of` meets its contract: marks that were just made can be ruled on.
+-- `front::rule_of` meets its contract: marks and notes that were just made can be ruled on.
 -- Assumes nothing.
 use Rattle.std.proofs.Common.{arith}
 use Rattle.front.proofs.Lending.{unruled}

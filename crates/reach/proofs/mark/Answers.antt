@@ -32,7 +32,6 @@ loop-first-init c =
     let t = c.args.tables.now in
     record {
       met = none_met (opens_in t) (sources_in t) t.counts.arrays (rows_in c.args.marks.now) (links_in c.args.marks.now) c.requires.free;
-      clear = refl;
       turnable = turn_first t.values t.truths t.edges t.counts.edges _ (enough t c.requires) 0 c.gather-again.ensures.adjacent;
     }
 
@@ -57,7 +56,7 @@ overflow_add-pairs c =
     let t = c.args.tables.now in
     let few = c.requires.within.lent.arrays in
     let known = subst (λ (x : ℕ). Adjacent (opens_in t x) c.turn.new.words) (c.index_value-x.ensures ∙ value_here t c.loop-first.first c.loop-first-test.true) c.turn.ensures in
-    let marked = c.mark_value-pairs.ensures.marked (opens_in t) t.counts.arrays (fit t c.requires) known in
+    let marked = c.mark_value-pairs.ensures (opens_in t) t.counts.arrays (fit t c.requires) known in
     omega (arith, met_most (opens_in t) (sources_in t) t.counts.arrays few c.requires.within.sources c.loop-first.invariant.met, value_most (opens_in t) (sources_in t) t.counts.arrays few c.requires.within.sources marked)
 
 pub loop-first-preserved : goal.loop-first-preserved
@@ -67,24 +66,22 @@ loop-first-preserved c =
     elim c.if-marks-first-eq0.branch [
       | then-marks-first-eq0 w ↦
           let known = subst (λ (x : ℕ). Adjacent (opens_in t x) w.turn.new.words) (w.index_value-x.ensures ∙ value_here t h.first c.loop-first-test.true) w.turn.ensures in
-          let marked = w.mark_value-pairs.ensures.marked (opens_in t) t.counts.arrays (fit t c.requires) known in
+          let marked = w.mark_value-pairs.ensures (opens_in t) t.counts.arrays (fit t c.requires) known in
           rw (w.marks-is, w.pairs-is, w.value-is, w.neighbours-is)
           (record {
             met = met_on (opens_in t) (sources_in t) t.counts.arrays (rows_in h.marks) (links_in h.marks) h.first h.pairs h.invariant.met (omega arith) (sym (link_read h.marks h.first) ∙ w.if-marks-first-eq0.true) _ _ _ marked;
-            clear = w.mark_value-pairs.ensures.clear ∙ h.invariant.clear;
             turnable = turn_next t.values t.truths t.edges t.counts.edges _ (enough t c.requires) _ w.turn.ensures;
           })
       | else-marks-first-eq0 w ↦
           rw (w.marks-is, w.pairs-is, w.value-is, w.neighbours-is)
           (record {
             met = met_past (opens_in t) (sources_in t) t.counts.arrays (rows_in h.marks) (links_in h.marks) h.first h.pairs h.invariant.met (omega arith) (λ none. w.if-marks-first-eq0.false (link_read h.marks h.first ∙ none));
-            clear = h.invariant.clear;
             turnable = h.invariant.turnable;
           })
     ]
 
-pub returns-clause-marked : goal.returns-clause-marked
-returns-clause-marked c =
+pub returns : goal.returns
+returns c =
     let h = c.loop-first in
     let t = c.args.tables.now in
     all_met (opens_in t) (sources_in t) t.counts.arrays (rows_in h.marks) (links_in h.marks) h.first h.pairs h.invariant.met (omega arith)

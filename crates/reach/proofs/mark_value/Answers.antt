@@ -2,9 +2,9 @@
 -- Assumes nothing.
 use Rattle.std.proofs.Common.{◌≡◌, ℕ, ◌<◌, List, length, refl, sym, ap, ◌∙◌, subst, arith}
 use lib.ListN.{set, length-set}
-use Rattle.reach.specs.Reached.{rows_in, links_in, clear_in, sources_in, value_at, origin_at}
+use Rattle.reach.specs.Reached.{rows_in, links_in, sources_in, value_at, origin_at}
 use Rattle.reach.specs.Steps.{Spreads, SharedOrMade}
-use Rattle.reach.proofs.Marking.{linked, both_links, rows_length, links_length, row_rows, row_links, row_clear, link_rows, link_links, link_clear}
+use Rattle.reach.proofs.Marking.{linked, both_links, rows_length, links_length, row_rows, row_links, link_rows, link_links}
 use Rattle.reach.proofs.Values.{put_at, right_made, right_shared, made_small, shared_small, walked_begun, walked_past, walked_on, walked_ended}
 use Rattle.reach.proofs.mark_value.Goals as goal
 use Rattle.reach.proofs.mark_value.Goals.{then-index_value-x, else-index_value-x}
@@ -23,7 +23,6 @@ loop-t-init c =
       before = omega arith;
       small = small;
       few = omega (arith, small.0);
-      clear = refl;
       walked = λ e n fit known.
           walked_begun e s n (value_at s first) (set (rows_in marks) first made.row) (links_in marks) first made refl c.requires.first_of.none_before (put_at (rows_in marks) first made.row first inside refl)
           (right_made e n (value_at s first) (origin_at s first) words made fit.ends (fit.origin first c.requires.first_of.given) known spreads);
@@ -51,9 +50,7 @@ loop-t-preserved c =
           let rows : rows_in c.if-index_value-x.marks ≡ put_rows =
           ap rows_in w.marks-is ∙ link_rows marks h.last h.t ∙ row_rows h.marks h.last put.new.self put.ensures.row in
           let links : links_in c.if-index_value-x.marks ≡ set (links_in h.marks) h.last h.t =
-          ap links_in w.marks-is ∙ link_links marks h.last h.t ∙ ap (λ (l : List ℕ). set l h.last h.t) (row_links h.marks h.last put.new.self put.ensures.others.0) in
-          let clear : clear_in c.if-index_value-x.marks ≡ clear_in h.marks =
-          ap clear_in w.marks-is ∙ link_clear marks h.last h.t ∙ row_clear h.marks h.last put.new.self put.ensures.others.1 in
+          ap links_in w.marks-is ∙ link_links marks h.last h.t ∙ ap (λ (l : List ℕ). set l h.last h.t) (row_links h.marks h.last put.new.self put.ensures.others) in
           let link_in : h.last < length (links_in h.marks) = omega (arith, h.invariant.before, c.requires.next_long, links_length h.marks, links_length c.args.marks.now, h.auto.marks) in
           let row_in : h.t < length put_rows =
           omega (arith, c.requires.rows_long, rows_length h.marks, rows_length c.args.marks.now, h.auto.marks, length-set (rows_in h.marks) h.last h.made.row) in
@@ -64,7 +61,6 @@ loop-t-preserved c =
             before = omega arith;
             small = small;
             few = omega (arith, small.0, h.invariant.few);
-            clear = clear ∙ h.invariant.clear;
             walked = λ e n fit known.
                 let before = h.invariant.walked e n fit known in
                 let right = right_shared e n x (origin_at s h.last) (origin_at s h.t) words h.made new fit.ends (fit.origin h.last (omega (arith, h.invariant.before))) (fit.origin h.t (omega arith)) known before.right shared in
@@ -76,15 +72,14 @@ loop-t-preserved c =
             before = omega (arith, h.invariant.before);
             small = h.invariant.small;
             few = omega (arith, h.invariant.few);
-            clear = h.invariant.clear;
             walked = λ e n fit known.
                 walked_past e s n x begun links₀ put_rows (links_in h.marks) h.last h.t h.pairs h.made (h.invariant.walked e n fit known)
                 (λ is. w.if-index_value-x.false (c.index_value.ensures ∙ is ∙ sym c.index_value-x.ensures));
           })
     ]
 
-pub returns-clause-marked : goal.returns-clause-marked
-returns-clause-marked c = λ e n fit known.
+pub returns : goal.returns
+returns c = λ e n fit known.
     let h = c.loop-t in
     let s = sources_in c.args.tables.now in
     let rows₀ = rows_in c.args.marks.now in
@@ -97,8 +92,3 @@ returns-clause-marked c = λ e n fit known.
     rw (row_rows h.marks h.last new c.set_row-2.ensures.row, both_links h.marks h.last new)
     (walked_ended e s n (value_at s first) (set rows₀ first row) links₀ (set (rows_in h.marks) h.last h.made.row) (links_in h.marks) h.last h.t h.pairs h.made (h.invariant.walked e n fit known)
     rows₀ first row refl refl (omega (arith, c.requires.first_of.given)) h.invariant.before link_in)
-
-pub returns-clause-clear : goal.returns-clause-clear
-returns-clause-clear c =
-    let h = c.loop-t in
-    row_clear h.marks h.last (linked c.set_row-2.new.self c.args.tables.now.counts.sources) c.set_row-2.ensures.others.1 ∙ h.invariant.clear

@@ -1,6 +1,6 @@
 -- `lemma::literal::literals_of` meets its contract: each edge of the path is open, and its literal is added exactly if it does not stand there yet.
 -- Assumes nothing.
-use Rattle.std.proofs.Common.{◌/◌, ◌%◌, ◌<◌, ◌≡◌, true, length, get_or, [], ◌∷◌, sym, ◌∙◌, arith, length-append}
+use Rattle.std.proofs.Common.{◌/◌, ◌%◌, ◌≡◌, true, get_or, [], ◌∷◌, sym, ◌∙◌, arith, length-append}
 use mathlib.Core.Bool.{false≢true}
 use Rattle.std.proofs.lemmas.List.Elements.{All-get_or}
 use Rattle.lemma.specs.Steps.{table_in, open_at}
